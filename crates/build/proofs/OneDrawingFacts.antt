@@ -16,7 +16,7 @@ use Rattle.plans.specs.Value.{Out}
 use Rattle.reached.proofs.FlatFacts.{flat_there, flat_back, flat_after}
 use Rattle.reached.proofs.SpellingFacts.{there_is}
 use Rattle.reached.specs.Spelled.{flat_vertex, flat_vertices}
-use Rattle.rewrite.specs.Flat.{IsFlattened}
+use Rattle.rewrite.specs.Flat.{Becomes, IsFlattened}
 use Rattle.rewrite.specs.Pruned.{Names, AreNames, IsPruned}
 use Rattle.rewrite.proofs.FlattenedFacts.{flat_needs}
 use Rattle.lowering.specs.Meaning.{Rows}
@@ -229,34 +229,111 @@ module _ {C : Type 0} (old flat simple : PlanValue C) (is : IsPlan old) (f : IsF
 
 -- ---- the lines
 
+-- a vertex that the target reached is one of those that are left, on its flat inputs under their new numbers
+record IsOne (olds : List Vertex) (target : ℕ) (news : List Vertex) (N : ℕ → ℕ → Type 0) (k id : ℕ) : Type 0 where
+  reached : Reaches olds target k
+  vertex : Vertex
+  there : slice_get olds k ≡ Some vertex
+  renamed : Vertex
+  is : slice_get news id ≡ Some renamed
+  op : renamed.op ≡ vertex.op
+  inputs : AllZip N (flat_vertex olds vertex).inputs renamed.inputs
+
+-- two vertices that are kept have two numbers
+one_kept : {C : Type 0} (flat simple : PlanValue C) (p : IsPruned flat simple) (j k a : ℕ) → slice_get p.names j ≡ Some (Some a) → slice_get p.names k ≡ Some (Some a) → j ≡ k
+one_kept flat simple p j k a this that = elim (cases_lt j k) [
+  | inl less ↦ (let lt = p.ordered j k a a this that less in absurd (omega (arith, lt)))
+  | inr not_less ↦ elim (cases_lt k j) [
+    | inl more ↦ (let lt = p.ordered k j a a that this more in absurd (omega (arith, lt)))
+    | inr not_more ↦ omega (arith, not_less, not_more)
+  ]
+]
+
+-- the numbers between
+zip_between : (flat pruned : Names) → ((j k a : ℕ) → slice_get pruned j ≡ Some (Some a) → slice_get pruned k ≡ Some (Some a) → j ≡ k) → (olds mids news : List ℕ)
+    → AllZip (Named flat pruned) olds news → AreNames pruned mids news → AreNames flat olds mids
+zip_between flat pruned one [] [] [] these those = tt
+zip_between flat pruned one [] (m ∷ ms) [] these those = absurd those
+zip_between flat pruned one [] mids (n ∷ ns) these those = absurd these
+zip_between flat pruned one (o ∷ os) mids [] these those = absurd these
+zip_between flat pruned one (o ∷ os) [] (n ∷ ns) these those = absurd those
+zip_between flat pruned one (o ∷ os) (m ∷ ms) (n ∷ ns) these those =
+    (subst (λ i. slice_get flat o ≡ Some (Some i)) (one these.0.0 m n these.0.2 those.0) these.0.1, zip_between flat pruned one os ms ns these.1 those.1)
+
+zip_over : (M N : ℕ → ℕ → Type 0) → ((j i : ℕ) → N j i → M j i) → (olds news : List ℕ) → AllZip N olds news → AllZip M olds news
+zip_over M N over [] [] these = tt
+zip_over M N over [] (n ∷ ns) these = absurd these
+zip_over M N over (o ∷ os) [] these = absurd these
+zip_over M N over (o ∷ os) (n ∷ ns) these = (over o n these.0, zip_over M N over os ns these.1)
+
 module _ {C : Type 0} (old flat simple : PlanValue C) (f : IsFlattened old flat) (p : IsPruned flat simple) where
-  -- a line behind a vertex that is left is one of a vertex that it stands for
+  -- a line behind a vertex that is left is one of a vertex that became it
   line_from : (id line : ℕ) → id < length simple.graph.vertices → Contains (lines_at simple.graph id) line
-      → (k : ℕ) × Named f.names p.names k id × Contains (lines_at old.graph k) line
+      → (k : ℕ) × IsOne old.graph.vertices old.target simple.graph.vertices (Named f.names p.names) k id × Contains (lines_at old.graph k) line
   line_from id line within is =
       let m = p.onto id within in
       let inside : m.0 < length flat.graph.vertices = (let l = slice_get_within p.names m.0 (Some id) m.1 in omega (arith, l, p.long)) in
       let k = (f.lines m.0 line inside).0 (subst (λ (ls : List ℕ). Contains ls line) (p.lines m.0 id m.1) is) in
-      (k.0, (m.0, k.1, m.1), k.2)
+      let u = p.same m.0 id k.1.renamed m.1 k.1.is in (
+        k.0,
+        record {
+          reached = k.1.reached;
+          vertex = k.1.vertex;
+          there = k.1.there;
+          renamed = u.0;
+          is = u.1;
+          op = u.2.op ∙ k.1.same.op;
+          inputs = zip_both f.names p.names (flat_vertex old.graph.vertices k.1.vertex).inputs k.1.renamed.inputs u.0.inputs k.1.same.inputs u.2.inputs;
+        },
+        k.2,
+      )
 
   -- and the other way round
-  line_to : (k id line : ℕ) → Named f.names p.names k id → Contains (lines_at old.graph k) line → Contains (lines_at simple.graph id) line
-  line_to k id line named is =
-      let inside : named.0 < length flat.graph.vertices = (let l = slice_get_within p.names named.0 (Some id) named.2 in omega (arith, l, p.long)) in
-      subst (λ (ls : List ℕ). Contains ls line) (sym (p.lines named.0 id named.2)) ((f.lines named.0 line inside).1 (k, named.1, is))
+  line_to : (k id line : ℕ) → IsOne old.graph.vertices old.target simple.graph.vertices (Named f.names p.names) k id → Contains (lines_at old.graph k) line
+      → Contains (lines_at simple.graph id) line
+  line_to k id line one is =
+      let m = p.onto id (slice_get_within simple.graph.vertices id one.renamed one.is) in
+      let inside : m.0 < length flat.graph.vertices = (let l = slice_get_within p.names m.0 (Some id) m.1 in omega (arith, l, p.long)) in
+      let x = there_is flat.graph.vertices m.0 inside in
+      let u = p.same m.0 id x.0 m.1 x.1 in
+      let same : u.0 ≡ one.renamed = same_Some u.0 one.renamed (sym u.1 ∙ one.is) in
+      let ids = (flat_vertex old.graph.vertices one.vertex).inputs in
+      let ins : AllZip (Named f.names p.names) ids u.0.inputs = subst (λ (v : Vertex). AllZip (Named f.names p.names) ids v.inputs) (sym same) one.inputs in
+      let op : x.0.op ≡ one.vertex.op = sym u.2.op ∙ (ap (λ (v : Vertex). v.op) same ∙ one.op) in
+      let becomes : Becomes old flat f.names k m.0 = record {
+        reached = one.reached;
+        vertex = one.vertex;
+        there = one.there;
+        renamed = x.0;
+        is = x.1;
+        same = record { op = op; inputs = zip_between f.names p.names (one_kept flat simple p) ids x.0.inputs u.0.inputs ins u.2.inputs };
+      } in
+      subst (λ (ls : List ℕ). Contains ls line) (sym (p.lines m.0 id m.1)) ((f.lines m.0 line inside).1 (k, becomes, is))
 
 -- the lines behind a vertex that is left of one plan are behind that of the other
 module _ {C : Type 0} (one other flat_one flat_other simple_one simple_other : PlanValue C) (f : IsFlattened one flat_one) (p : IsPruned flat_one simple_one)
-    (g : IsFlattened other flat_other) (q : IsPruned flat_other simple_other) where
+    (g : IsFlattened other flat_other) (q : IsPruned flat_other simple_other) (vertices : one.graph.vertices ≡ other.graph.vertices) (targets : one.target ≡ other.target)
+    (left : simple_one.graph.vertices ≡ simple_other.graph.vertices) where
   lines_over : ((k line : ℕ) → Contains (lines_at one.graph k) line → Contains (lines_at other.graph k) line)
       → ((k id : ℕ) → Named f.names p.names k id → (also : ℕ) × Named g.names q.names k also)
       → ((k a b : ℕ) → Named f.names p.names k a → Named g.names q.names k b → a ≡ b)
       → (id line : ℕ) → id < length simple_one.graph.vertices → Contains (lines_at simple_one.graph id) line → Contains (lines_at simple_other.graph id) line
   lines_over behind reached agree id line within is =
       let k = line_from one flat_one simple_one f p id line within is in
-      let also = reached k.0 id k.1 in
-      subst (λ (i : ℕ). Contains (lines_at simple_other.graph i) line) (sym (agree k.0 id also.0 k.1 also.1))
-      (line_to other flat_other simple_other g q k.0 also.0 line also.1 (behind k.0 line k.2))
+      let over : (j i : ℕ) → Named f.names p.names j i → Named g.names q.names j i =
+      λ j i named. (let also = reached j i named in subst (λ n. Named g.names q.names j n) (sym (agree j i also.0 named also.1)) also.1) in
+      let ids = (flat_vertex one.graph.vertices k.1.vertex).inputs in
+      let ins = zip_over (Named g.names q.names) (Named f.names p.names) over ids k.1.renamed.inputs k.1.inputs in
+      let here : IsOne other.graph.vertices other.target simple_other.graph.vertices (Named g.names q.names) k.0 id = record {
+        reached = subst (λ (vs : List Vertex). Reaches vs other.target k.0) vertices (subst (λ t. Reaches one.graph.vertices t k.0) targets k.1.reached);
+        vertex = k.1.vertex;
+        there = ap (λ (vs : List Vertex). slice_get vs k.0) (sym vertices) ∙ k.1.there;
+        renamed = k.1.renamed;
+        is = ap (λ (vs : List Vertex). slice_get vs id) (sym left) ∙ k.1.is;
+        op = k.1.op;
+        inputs = subst (λ (vs : List Vertex). AllZip (Named g.names q.names) (flat_vertex vs k.1.vertex).inputs k.1.renamed.inputs) vertices ins;
+      } in
+      line_to other flat_other simple_other g q k.0 id line here (behind k.0 line k.2)
 
 -- ---- one text
 
@@ -286,9 +363,9 @@ one_drawing one other rows target text beside is was this that these those =
     these.simple.target those.simple.target N M first moved in
     let places : these.simple.graph.places ≡ those.simple.graph.places =
     same_places these.simple.graph those.simple.graph these.is those.is (ap (λ (vs : List Vertex). length vs) same.0)
-    (lines_over one other these.simplified.flat those.simplified.flat these.simple those.simple f p g q (lines_stand one other rows target this that graph.2)
+    (lines_over one other these.simplified.flat those.simplified.flat these.simple those.simple f p g q graph.0 graph.1 same.0 (lines_stand one other rows target this that graph.2)
     (λ k id named. moved.reached k (first.back k id named)) same.2)
-    (lines_over other one those.simplified.flat these.simplified.flat those.simple these.simple g q f p (lines_stand other one rows target that this (sym graph.2))
+    (lines_over other one those.simplified.flat these.simplified.flat those.simple these.simple g q f p (sym graph.0) (sym graph.1) (sym same.0) (lines_stand other one rows target that this (sym graph.2))
     (λ k id named. first.reached k (moved.back k id named)) (λ k a b named also. sym (same.2 k b a also named))) in
     these.defines.written.1
     ∙ (ap (λ (vs : List Vertex). definition_text (record { vertices = vs; places = these.simple.graph.places }) these.simple.target) same.0

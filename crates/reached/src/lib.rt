@@ -14,4 +14,4 @@ mod marks;
 mod spelling;
 
 pub use marks::mark_reached;
-pub use spelling::{Flattened, flatten_reached, is_merge};
+pub use spelling::{Flattened, flat_inputs, flatten_reached, is_merge};

@@ -64,7 +64,7 @@ fn spell_out(
 }
 
 /// The inputs of a vertex, flat.
-fn flat_inputs(
+pub fn flat_inputs(
     alloc: Global,
     vertices: &[Vertex],
     vertex: &Vertex,

@@ -11,8 +11,8 @@ use Rattle.rewrite.specs.PrivateFlat.{last_of, MergesDiffer, MarksLast}
 
 -- the merges before a number differ, and the last input of each is marked
 pub record DifferSoFar (vertices : List Vertex) (marks lasts : List Bool) (at : ℕ) : Type 0 where
-  pub differ : (j k : ℕ) (v : Vertex) → j < at → k < at → is_marked marks j ≡ true → is_marked marks k ≡ true → slice_get vertices j ≡ Some v
-      → slice_get vertices k ≡ Some v → v.op ≡ MergeOp → j ≡ k
+  pub differ : (j k : ℕ) (v w : Vertex) → j < at → k < at → is_marked marks j ≡ true → is_marked marks k ≡ true → slice_get vertices j ≡ Some v
+      → slice_get vertices k ≡ Some w → v.op ≡ MergeOp → w.op ≡ MergeOp → last_of v.inputs ≡ last_of w.inputs → j ≡ k
   pub noted : (j : ℕ) (v : Vertex) → j < at → is_marked marks j ≡ true → slice_get vertices j ≡ Some v → v.op ≡ MergeOp
       → is_marked lasts (last_of v.inputs) ≡ true
 
@@ -50,24 +50,24 @@ module _ (vertices : List Vertex) (marks old new : List Bool) (at : ℕ) (u : Ve
   merges v op_is = ap is_merge op_is
 
   -- none before it has its last input
-  others : (j k : ℕ) (v : Vertex) → j < at → k ≡ at → is_marked marks j ≡ true → is_marked marks k ≡ true → slice_get vertices j ≡ Some v
-      → slice_get vertices k ≡ Some v → v.op ≡ MergeOp → ⊥
-  others j k v low same at_j at_k there_j there_k op_is =
-      let is : u ≡ v = this k v same there_k in
+  others : (j k : ℕ) (v w : Vertex) → j < at → k ≡ at → is_marked marks j ≡ true → is_marked marks k ≡ true → slice_get vertices j ≡ Some v
+      → slice_get vertices k ≡ Some w → v.op ≡ MergeOp → w.op ≡ MergeOp → last_of v.inputs ≡ last_of w.inputs → ⊥
+  others j k v w low same at_j at_k there_j there_k v_merge w_merge lasts =
+      let is : u ≡ w = this k w same there_k in
       let mark : is_marked marks at ≡ true = ap (is_marked marks) (sym same) ∙ at_k in
-      let last = noted.last mark (ap (λ (x : Vertex). is_merge x.op) is ∙ merges v op_is) in
-      let before : is_marked old (last_of v.inputs) ≡ false = ap (λ (x : Vertex). is_marked old (last_of x.inputs)) (sym is) ∙ last.before in
-      true≢false (sym (so_far.noted j v low at_j there_j op_is) ∙ before)
+      let last = noted.last mark (ap (λ (x : Vertex). is_merge x.op) is ∙ merges w w_merge) in
+      let before : is_marked old (last_of w.inputs) ≡ false = ap (λ (x : Vertex). is_marked old (last_of x.inputs)) (sym is) ∙ last.before in
+      true≢false (sym (so_far.noted j v low at_j there_j v_merge) ∙ (ap (is_marked old) lasts ∙ before))
 
   pub differ_next : DifferSoFar vertices marks new (at + 1)
   differ_next = record {
-    differ = λ j k v low less at_j at_k there_j there_k op_is. elim (cases_lt j at) [
+    differ = λ j k v w low less at_j at_k there_j there_k v_merge w_merge lasts. elim (cases_lt j at) [
       | inl j_before ↦ elim (cases_lt k at) [
-        | inl k_before ↦ so_far.differ j k v j_before k_before at_j at_k there_j there_k op_is
-        | inr k_past ↦ absurd (others j k v j_before (omega (arith, less, k_past)) at_j at_k there_j there_k op_is)
+        | inl k_before ↦ so_far.differ j k v w j_before k_before at_j at_k there_j there_k v_merge w_merge lasts
+        | inr k_past ↦ absurd (others j k v w j_before (omega (arith, less, k_past)) at_j at_k there_j there_k v_merge w_merge lasts)
       ]
       | inr j_past ↦ elim (cases_lt k at) [
-        | inl k_before ↦ absurd (others k j v k_before (omega (arith, low, j_past)) at_k at_j there_k there_j op_is)
+        | inl k_before ↦ absurd (others k j w v k_before (omega (arith, low, j_past)) at_k at_j there_k there_j w_merge v_merge (sym lasts))
         | inr k_past ↦ omega (arith, low, less, j_past, k_past)
       ]
     ];
@@ -84,7 +84,7 @@ module _ (vertices : List Vertex) (marks old new : List Bool) (at : ℕ) (u : Ve
 
 pub all_differ : (vertices : List Vertex) (marks lasts : List Bool) (at : ℕ) → length vertices ≤ at → DifferSoFar vertices marks lasts at
     → MergesDiffer vertices marks
-all_differ vertices marks lasts at over so_far j k v at_j at_k there_j there_k op_is =
+all_differ vertices marks lasts at over so_far j k v w at_j at_k there_j there_k v_merge w_merge same =
     let j_in = slice_get_within vertices j v there_j in
-    let k_in = slice_get_within vertices k v there_k in
-    so_far.differ j k v (omega (arith, over, j_in)) (omega (arith, over, k_in)) at_j at_k there_j there_k op_is
+    let k_in = slice_get_within vertices k w there_k in
+    so_far.differ j k v w (omega (arith, over, j_in)) (omega (arith, over, k_in)) at_j at_k there_j there_k v_merge w_merge same

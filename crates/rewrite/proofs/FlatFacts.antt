@@ -13,11 +13,8 @@ use Rattle.reached.specs.Spelled.{flat_inputs, flat_vertex, flat_vertices}
 use Rattle.reached.proofs.FlatFacts.{flat_there, flat_back, as_many, flat_after}
 use Rattle.reached.proofs.SpellingFacts.{there_is, flat_long}
 use Rattle.rewrite.specs.PrivateJoined.{AreJoinable, AreJoined}
+use Rattle.rewrite.specs.PrivateSpelled.{flat_graph}
 use Rattle.rewrite.specs.Pruned.{Names}
-
--- a graph on flat inputs
-abbrev pub flat_graph : GraphValue → GraphValue
-flat_graph old = record { vertices = flat_vertices old.vertices; places = old.places }
 
 -- an operation is well formed on its flat inputs
 pub inputs_fit : (vs : List Vertex) (at : ℕ) (v : Vertex) → AreVertices vs → slice_get vs at ≡ Some v → IsTrue (is_well_formed_on v.op (length (flat_inputs vs v.op v.inputs)))

@@ -25,64 +25,65 @@ use Rattle.reached.proofs.SpellingFacts.{there_is, merge_is, flat_other, spelled
 use Rattle.reached.specs.Reached.{AreOnFlat, AreFlattened, AreReached}
 use Rattle.reached.specs.Spelled.{with_first, spelled_out, flat_inputs, flat_vertex, flat_vertices, is_merge}
 use Rattle.rewrite.proofs.SpelledValues.{flat_value, failing_is_no_merge}
-use Rattle.rewrite.specs.Flat.{IsFlattened, MergesAreFlat}
+use Rattle.rewrite.specs.Flat.{Becomes, IsFlattened, MergesAreFlat}
 use Rattle.rewrite.specs.PrivateJoined.{HasName, AreJoinable, AreJoined}
 use Rattle.rewrite.specs.Pruned.{Names, AreNames, KeepsMeaning}
-use Rattle.rewrite.proofs.FlatFacts.{flat_graph, flat_joinable, joined_flat}
-use Rattle.rewrite.proofs.PrunedFacts.{names_first, reached_marked, marked_within, names_among, same_name, names_trees, failed_within}
+use Rattle.rewrite.specs.PrivateSpelled.{IsFlatOf, flat_graph}
+use Rattle.rewrite.proofs.FlatFacts.{flat_joinable, joined_flat}
+use Rattle.rewrite.proofs.MarkedFacts.{marked_within, reached_marked}
+use Rattle.rewrite.proofs.ReachFacts.{IsNoMerge, named_becomes, one_renamed, reached_flat}
+use Rattle.rewrite.proofs.PrunedFacts.{names_first, names_among, same_name, names_trees, failed_within}
 
 -- ---- which plan it is
 
--- what flattening answered on the way
-pub record IsMadeFlat {C : Type 0} (plan : PlanValue C) (graph flat : GraphValue) (target : ℕ) (config : C) (sources : SourcesValue) (marks : List Bool)
-    (names : Names) : Type 0 where
-  pub parts : plan ≡ record { graph = graph; target = target; config = config; sources = sources }
-  pub reached : AreReached (flat_vertices graph.vertices) target marks
-  pub are : AreJoined (flat_graph graph) marks (length graph.vertices) flat names
-
-pub made_flat : {C : Type 0} (plan : PlanValue C) (graph flat : GraphValue) (target : ℕ) (config : C) (sources : SourcesValue)
-    (vertices put : List Vertex) (places : List (List ℕ)) (marks lent_marks : List Bool) (names : Names)
-    → plan ≡ record { graph = graph; target = target; config = config; sources = sources } → graph ≡ record { vertices = vertices; places = places }
-    → AreFlattened vertices target marks put → lent_marks ≡ marks
-    → AreJoined (record { vertices = put; places = places }) lent_marks (length put) flat names → IsMadeFlat plan graph flat target config sources marks names
-made_flat plan graph flat target config sources vertices put places marks lent_marks names parts split flattened is joined =
+-- what was put on flat inputs and joined is made of the graph on its flat inputs
+pub put_joined : (vertices put : List Vertex) (places : List (List ℕ)) (marks lent_marks : List Bool) (target : ℕ) (flat : GraphValue) (names : Names)
+    → AreFlattened vertices target marks put → lent_marks ≡ marks → AreJoined (record { vertices = put; places = places }) lent_marks (length put) flat names
+    → AreJoined (flat_graph (record { vertices = vertices; places = places })) marks (length vertices) flat names
+put_joined vertices put places marks lent_marks target flat names flattened is joined =
     let on : AreOnFlat vertices marks put = flattened.1 in
     let lent : AreJoined (record { vertices = put; places = places }) marks (length put) flat names =
     subst (λ ms. AreJoined (record { vertices = put; places = places }) ms (length put) flat names) is joined in
     let all : AreJoined (record { vertices = put; places = places }) marks (length vertices) flat names =
     subst (λ n. AreJoined (record { vertices = put; places = places }) marks n flat names) on.long lent in
-    record {
-      parts = parts;
-      reached = rw split flattened.0;
-      are = rw split (joined_flat (record { vertices = vertices; places = places }) flat marks put (length vertices) names on all);
-    }
+    joined_flat (record { vertices = vertices; places = places }) flat marks put (length vertices) names on all
 
 -- the target has a new number
-pub target_named_flat : {C : Type 0} (plan : PlanValue C) (graph flat : GraphValue) (target : ℕ) (config : C) (sources : SourcesValue) (marks : List Bool)
-    (names : Names) → IsPlan plan → IsMadeFlat plan graph flat target config sources marks names → (last : ℕ) × (slice_get names target ≡ Some (Some last))
-target_named_flat plan graph flat target config sources marks names is made =
-    let lt : target < length graph.vertices = rw made.parts at is.target in
-    made.are.named target lt made.reached.has_first
+pub target_named_flat : (graph flat : GraphValue) (target : ℕ) (names : Names) → target < length graph.vertices → IsFlatOf graph target flat names
+    → (last : ℕ) × (slice_get names target ≡ Some (Some last))
+target_named_flat graph flat target names lt is = is.are.named target lt is.reached.has_first
 
 -- the vertices that were joined make a flattened plan
 pub joined_flattened : {C : Type 0} (plan new : PlanValue C) (graph flat : GraphValue) (target last : ℕ) (config : C) (sources : SourcesValue)
-    (marks : List Bool) (names lent_names : Names) → IsMadeFlat plan graph flat target config sources marks names → lent_names ≡ names
+    (names lent_names : Names) → plan ≡ record { graph = graph; target = target; config = config; sources = sources } → IsFlatOf graph target flat names → lent_names ≡ names
     → slice_get lent_names target ≡ Some (Some last) → new ≡ record { graph = flat; target = last; config = config; sources = sources } → IsFlattened plan new
-joined_flattened plan new graph flat target last config sources marks names lent_names made same name is = rw (made.parts, is) (record {
+joined_flattened plan new graph flat target last config sources names lent_names parts made same name is = rw (parts, is) (record {
   names = names;
   long = made.are.long;
   reached = λ k. (
-    λ r. (let marked = reached_marked (flat_vertices graph.vertices) target marks r.0 target k made.reached made.reached.has_first r.1 in
+    λ r. (let marked = reached_marked (flat_vertices graph.vertices) target made.marks r.0 target k made.reached made.reached.has_first r.1 in
         made.are.named k
-        (let in_marks = marked_within marks k marked in
+        (let in_marks = marked_within made.marks k marked in
         let all = as_many graph.vertices in
         omega (arith, in_marks, made.reached.long, all)) marked),
     λ n. made.reached.only k (made.are.marked k n.0 n.1),
   );
-  onto = made.are.onto;
+  onto = λ id lt. made.are.onto id (subst (λ vs. id < length vs) made.vertices lt);
   ordered = made.are.ordered;
-  same = λ k id v name there. made.are.same k id (flat_vertex graph.vertices v) name (flat_there graph.vertices k v there);
-  lines = λ id line lt. (λ h. made.are.only id line lt h, λ k. made.are.lines k.0 id line k.1 k.2);
+  same = λ k id v name there.
+      (let s = made.are.same k id (flat_vertex graph.vertices v) name (flat_there graph.vertices k v there) in
+      (s.0, ap (λ vs. slice_get vs id) made.vertices ∙ s.1, s.2));
+  lines = λ id line lt.
+      (let both = made.lines id line lt in (
+        λ h. (let k = both.0 h in
+            (k.0, record { reached = made.all.only k.0 k.1; vertex = k.2.vertex; there = k.2.there; renamed = k.2.renamed; is = k.2.is; same = k.2.same }, k.3)),
+        λ k. both.1 (
+          k.0,
+          reached_marked graph.vertices target made.before k.1.reached.0 target k.0 made.all made.all.has_first k.1.reached.1,
+          record { vertex = k.1.vertex; there = k.1.there; renamed = k.1.renamed; is = k.1.is; same = k.1.same },
+          k.2,
+        ),
+      ));
   last = subst (λ (ns : Names). slice_get ns target ≡ Some (Some last)) same name;
   config = refl;
   sources = refl;
@@ -101,11 +102,11 @@ old_op old marks new names id u are there =
     (k.0, v.0, v.1, ap (λ (x : Vertex). x.op) (sym one) ∙ s.2.op)
 
 -- so its sources have their trees
-pub flat_sources : {C : Type 0} (plan : PlanValue C) (graph flat : GraphValue) (target : ℕ) (config : C) (sources : SourcesValue) (marks : List Bool)
-    (names : Names) → IsPlan plan → IsMadeFlat plan graph flat target config sources marks names → HasSources sources flat.vertices
-flat_sources plan graph flat target config sources marks names is made id u there =
-    let has : HasSources sources graph.vertices = rw made.parts at is.sources in
-    let old = old_op graph marks flat names id u made.are there in
+pub flat_sources : {C : Type 0} (plan : PlanValue C) (graph flat : GraphValue) (target : ℕ) (config : C) (sources : SourcesValue) (names : Names) → IsPlan plan
+    → plan ≡ record { graph = graph; target = target; config = config; sources = sources } → IsFlatOf graph target flat names → HasSources sources flat.vertices
+flat_sources plan graph flat target config sources names is parts made id u there =
+    let has : HasSources sources graph.vertices = rw parts at is.sources in
+    let old = old_op graph made.marks made.joined names id u made.are (ap (λ vs. slice_get vs id) (sym made.vertices) ∙ there) in
     subst (HasSource sources) (sym old.3) (has old.0 old.1 old.2)
 
 module _ {C : Type 0} (old new : PlanValue C) (is : IsFlattened old new) where
@@ -196,88 +197,6 @@ module _ {C : Type 0} (old new : PlanValue C) (is : IsFlattened old new) where
       first_of vs olds k.0 x.0.inputs (omega (arith, within)) (olds.after k.0 x.0 x.1) begun.0 begun.1 y.0 starts y.1
       (sym t.2.op ∙ (ap (λ (z : Vertex). z.op) two ∙ u_op))
 
--- ---- paths
-
--- a vertex that isn't a merge, or doesn't stand there
-abbrev IsNoMerge : List Vertex → ℕ → Type 0
-IsNoMerge vs to = (u : Vertex) → slice_get vs to ≡ Some u → u.op ≢ MergeOp
-
-module _ (vs : List Vertex) (are : AreVertices vs) where
-  path_on : (a b c : ℕ) (path more : List ℕ) → IsPath (HasInput vs) a path b → IsPath (HasInput vs) b more c → IsPath (HasInput vs) a (path ++ more) c
-  path_on a b c [] more first second = subst (λ n. IsPath (HasInput vs) n more c) (sym first) second
-  path_on a b c (next ∷ path) more first second = (first.0, path_on next b c path more first.1 second)
-
-  -- a flat input is reached
-  input_reached : (k : ℕ) (v : Vertex) (i : ℕ) (b : Bool) → slice_get vs k ≡ Some v → is_merge v.op ≡ b → Contains (flat_inputs vs v.op v.inputs) i → Reaches vs k i
-  input_reached k v i true there merge among =
-      let op_is : v.op ≡ MergeOp = merge_is v.op merge in
-      let spelled : Contains (spelled_out vs k) i =
-      subst (λ ins. Contains ins i) (ap (λ (op : Op). flat_inputs vs op v.inputs) op_is ∙ sym (spelled_merge vs are k v there op_is)) among in
-      spelled_reached vs are k v there i spelled
-  input_reached k v i false there other among =
-      (i ∷ [], (record { v = v; there = there; among = subst (λ ins. Contains ins i) (flat_other vs v.op v.inputs other) among }, refl))
-
-  -- what is reached on flat inputs is reached
-  pub flat_reached : (path : List ℕ) (from to : ℕ) → IsPath (HasInput (flat_vertices vs)) from path to → Reaches vs from to
-  flat_reached [] from to leads = ([], leads)
-  flat_reached (next ∷ path) from to leads =
-      let v = flat_back vs from leads.0.v leads.0.there in
-      let contained : Contains (flat_inputs vs v.0.op v.0.inputs) next = subst (λ (x : Vertex). Contains x.inputs next) v.2 leads.0.among in
-      let one = input_reached from v.0 next (is_merge v.0.op) v.1 refl contained in
-      let rest = flat_reached path next to leads.1 in
-      (one.0 ++ rest.0, path_on from next to one.0 rest.0 one.1 rest.1)
-
-  -- from a vertex on to one of its flat inputs
-  on_to : (v : Vertex) (from next to : ℕ) → slice_get vs from ≡ Some v → Contains (flat_inputs vs v.op v.inputs) next → Reaches (flat_vertices vs) next to
-      → Reaches (flat_vertices vs) from to
-  on_to v from next to there among rest =
-      (next ∷ rest.0, (record { v = flat_vertex vs v; there = flat_there vs from v there; among = among }, rest.1))
-
-  -- from a merge on, over the one that stands first in it
-  over_first : (v u : Vertex) (from first to : ℕ) (rest path : List ℕ) → slice_get vs from ≡ Some v → flat_inputs vs v.op v.inputs ≡ spelled_out vs first ++ rest
-      → slice_get vs first ≡ Some u → u.op ≡ MergeOp → IsNoMerge vs to → IsPath (HasInput (flat_vertices vs)) first path to → Reaches (flat_vertices vs) from to
-  over_first v u from first to rest [] there flat is merge plain leads = absurd (plain u (ap (slice_get vs) (sym leads) ∙ is) merge)
-  over_first v u from first to rest (next ∷ path) there flat is merge plain leads =
-      let x = flat_back vs first leads.0.v leads.0.there in
-      let same : x.0 ≡ u = (let f : Some x.0 ≡ Some u = sym x.1 ∙ is in cc) in
-      let in_flat : Contains (flat_inputs vs u.op u.inputs) next =
-      subst (λ (y : Vertex). Contains (flat_inputs vs y.op y.inputs) next) same (subst (λ (y : Vertex). Contains y.inputs next) x.2 leads.0.among) in
-      let in_spelled : Contains (spelled_out vs first) next =
-      subst (λ ins. Contains ins next) (ap (λ (op : Op). flat_inputs vs op u.inputs) merge ∙ sym (spelled_merge vs are first u is merge)) in_flat in
-      on_to v from next to there (subst (λ ins. Contains ins next) (sym flat) (Contains-append_left (spelled_out vs first) rest next in_spelled)) (path, leads.1)
-
-  by_first : (v u : Vertex) (from first to : ℕ) (rest : List ℕ) (b : Bool) → slice_get vs from ≡ Some v → flat_inputs vs v.op v.inputs ≡ spelled_out vs first ++ rest
-      → slice_get vs first ≡ Some u → is_merge u.op ≡ b → IsNoMerge vs to → Reaches (flat_vertices vs) first to → Reaches (flat_vertices vs) from to
-  by_first v u from first to rest true there flat is merge plain on = over_first v u from first to rest on.0 there flat is (merge_is u.op merge) plain on.1
-  by_first v u from first to rest false there flat is other plain on =
-      let all : flat_inputs vs v.op v.inputs ≡ first ∷ rest = flat ∙ ap (λ ids. ids ++ rest) (spelled_itself vs are first u is other) in
-      on_to v from first to there (subst (λ ins. Contains ins first) (sym all) (contains_here first rest)) on
-
-  of_merge : (v : Vertex) (from next to : ℕ) (inputs : List ℕ) → slice_get vs from ≡ Some v → flat_inputs vs v.op v.inputs ≡ with_first (spelled_out vs) inputs
-      → All (λ i. i < length vs) inputs → Contains inputs next → IsNoMerge vs to → Reaches (flat_vertices vs) next to → Reaches (flat_vertices vs) from to
-  of_merge v from next to [] there flat low among plain on = absurd (contains_nil next among)
-  of_merge v from next to (first ∷ rest) there flat low among plain on = elim (contains_cases first next rest among) [
-    | inl same ↦
-        let u = there_is vs first (All-head (λ i. i < length vs) first rest low) in
-        by_first v u.0 from first to rest (is_merge u.0.op) there flat u.1 refl plain (subst (λ n. Reaches (flat_vertices vs) n to) same on)
-    | inr more ↦ on_to v from next to there (subst (λ ins. Contains ins next) (sym flat) (Contains-append_right (spelled_out vs first) rest next more)) on
-  ]
-
-  over : (v : Vertex) (from next to : ℕ) (b : Bool) → slice_get vs from ≡ Some v → is_merge v.op ≡ b → Contains v.inputs next → IsNoMerge vs to
-      → Reaches (flat_vertices vs) next to → Reaches (flat_vertices vs) from to
-  over v from next to true there merge among plain on =
-      let within = slice_get_within vs from v there in
-      of_merge v from next to v.inputs there (ap (λ (op : Op). flat_inputs vs op v.inputs) (merge_is v.op merge))
-      (λ j d lt. (let at = are.after from v there j d lt in omega (arith, at, within))) among plain on
-  over v from next to false there other among plain on =
-      on_to v from next to there (subst (λ ins. Contains ins next) (sym (flat_other vs v.op v.inputs other)) among) on
-
-  -- a path to a vertex that isn't a merge leads on over flat inputs
-  pub reached_flat : (path : List ℕ) (from to : ℕ) → IsPath (HasInput vs) from path to → IsNoMerge vs to → Reaches (flat_vertices vs) from to
-  reached_flat [] from to leads plain = ([], leads)
-  reached_flat (next ∷ path) from to leads plain =
-      over leads.0.v from next to (is_merge leads.0.v.op) leads.0.there refl leads.0.among plain (reached_flat path next to leads.1 plain)
-
 -- ---- what it means
 
 -- a vertex with a cause is no merge
@@ -287,6 +206,19 @@ unfolding vertex_value
 no_merge_fails out plan id cause are is u there =
     failing_is_no_merge plan.graph.vertices are (world out plan.sources) id u cause there is
 
+-- what became a vertex that fails has its number: it is no merge, so it is reached over flat inputs
+becomes_named : {C : Type 0} (old new : PlanValue C) (is : IsFlattened old new) (out : Out) (k id : ℕ) (cause : Cause) → AreVertices old.graph.vertices
+    → AreVertices new.graph.vertices → Becomes old new is.names k id → IsValue (problem_of out new) id (Err cause) → slice_get is.names k ≡ Some (Some id)
+becomes_named old new is out k id cause olds news one value =
+    let plain : IsNoMerge old.graph.vertices k = λ u there merge.
+    (let same : u ≡ one.vertex = (let f : Some u ≡ Some one.vertex = sym there ∙ one.there in cc) in
+    no_merge_fails out new id cause news value one.renamed one.is (one.same.op ∙ (ap (λ (x : Vertex). x.op) (sym same) ∙ merge))) in
+    let name = (is.reached k).0 (reached_flat old.graph.vertices olds one.reached.0 old.target k one.reached.1 plain) in
+    let s = is.same k name.0 one.vertex name.1 one.there in
+    let equal : s.0 ≡ one.renamed = one_renamed is.names (flat_vertex old.graph.vertices one.vertex) s.0 one.renamed s.2 one.same in
+    let number : name.0 ≡ id = news.once name.0 id one.renamed (s.1 ∙ ap Some equal) one.is in
+    subst (λ n. slice_get is.names k ≡ Some (Some n)) number name.1
+
 -- so a flattened plan keeps what the plan means
 pub flat_keeps : {C : Type 0} (old new : PlanValue C) → IsFlattened old new → IsGraph old.graph → IsGraph new.graph → KeepsMeaning old new
 flat_keeps old new is olds news = record {
@@ -295,13 +227,14 @@ flat_keeps old new is olds news = record {
   last = λ out. flat_stays old new is out old.target new.target olds.vertices news.vertices is.last;
   failures = λ out line cause. (
     (λ f.
-        let k = (is.lines f.id line (failed_within out new f.id cause f.value)).0 f.behind in
-        let path = (is.reached k.0).1 (f.id, k.1) in
+        let within = failed_within out new f.id cause f.value in
+        let k = (is.lines f.id line within).0 f.behind in
+        let name = becomes_named old new is out k.0 f.id cause olds.vertices news.vertices k.1 f.value in
         record {
           id = k.0;
-          reached = flat_reached old.graph.vertices olds.vertices path.0 old.target k.0 path.1;
+          reached = k.1.reached;
           behind = k.2;
-          value = sym (flat_stays old new is out k.0 f.id olds.vertices news.vertices k.1) ∙ f.value;
+          value = sym (flat_stays old new is out k.0 f.id olds.vertices news.vertices name) ∙ f.value;
         }),
     (λ f.
         let plain = no_merge_fails out old f.id cause olds.vertices f.value in
@@ -310,7 +243,7 @@ flat_keeps old new is olds news = record {
         record {
           id = name.0;
           reached = flat_needs old new is out name.0 (failed_within out new name.0 cause value);
-          behind = (is.lines name.0 line (failed_within out new name.0 cause value)).1 (f.id, name.1, f.behind);
+          behind = (is.lines name.0 line (failed_within out new name.0 cause value)).1 (f.id, named_becomes old new is f.id name.0 name.1, f.behind);
           value = value;
         }),
   );
@@ -326,15 +259,18 @@ made_merges_flat plan new is flattened = merges_flat plan new flattened is.graph
 -- ---- between the calls
 
 -- what was put on flat inputs can make a graph
-pub made_fit : (graph : GraphValue) (target : ℕ) (vertices put : List Vertex) (places : List (List ℕ)) (marks lent_marks : List Bool) → IsGraph graph
-    → graph ≡ record { vertices = vertices; places = places } → AreFlattened vertices target marks put → lent_marks ≡ marks
-    → AreJoinable (record { vertices = put; places = places }) lent_marks
-made_fit graph target vertices put places marks lent_marks is split flattened lent =
+pub made_fit : (target : ℕ) (vertices put : List Vertex) (places : List (List ℕ)) (marks lent_marks : List Bool) → IsGraph (record { vertices = vertices; places = places })
+    → AreFlattened vertices target marks put → lent_marks ≡ marks → AreJoinable (record { vertices = put; places = places }) lent_marks
+made_fit target vertices put places marks lent_marks is flattened lent =
     subst (λ ms. AreJoinable (record { vertices = put; places = places }) ms) (sym lent)
-    (flat_joinable (record { vertices = vertices; places = places }) target marks put (subst IsGraph split is) flattened.0 flattened.1)
+    (flat_joinable (record { vertices = vertices; places = places }) target marks put is flattened.0 flattened.1)
+
+-- the target is among the vertices
+pub target_within : {C : Type 0} (plan : PlanValue C) (graph : GraphValue) (target : ℕ) (config : C) (sources : SourcesValue)
+    → plan ≡ record { graph = graph; target = target; config = config; sources = sources } → IsPlan plan → target < length graph.vertices
+target_within plan graph target config sources parts is = rw parts at is.target
 
 -- the target's new number, in names that were lent
-pub lent_named : {C : Type 0} (plan : PlanValue C) (graph flat : GraphValue) (target : ℕ) (config : C) (sources : SourcesValue) (marks : List Bool)
-    (names lent : Names) → IsPlan plan → IsMadeFlat plan graph flat target config sources marks names → lent ≡ names → HasName lent target
-lent_named plan graph flat target config sources marks names lent is made same =
-    subst (λ (ns : Names). HasName ns target) (sym same) (target_named_flat plan graph flat target config sources marks names is made)
+pub lent_named : (graph flat : GraphValue) (target : ℕ) (names lent : Names) → target < length graph.vertices → IsFlatOf graph target flat names → lent ≡ names → HasName lent target
+lent_named graph flat target names lent lt made same =
+    subst (λ (ns : Names). HasName ns target) (sym same) (target_named_flat graph flat target names lt made)

@@ -1,25 +1,30 @@
 -- Vertices of which no two are equal don't become equal on their new numbers, so each of them is new where it comes.
-use Rattle.std.proofs.Common.{◌≡◌, ◌<◌, ◌≤◌, ℕ, zero, suc, Bool, true, false, List, [], ◌∷◌, Some, refl, sym, ap, ap₂, ◌∙◌, subst, arith, length}
-use Rattle.std.specs.Prelude.{slice_get, slice_index_or}
+use Rattle.std.proofs.Common.{◌≡◌, ◌<◌, ◌≤◌, ◌+◌, ◌-◌, ℕ, zero, suc, Bool, true, false, List, [], ◌∷◌, ◌++◌, Some, refl, sym, ap, ap₂, ◌∙◌, subst, arith, length, length-append}
+use Rattle.std.specs.Prelude.{get_or, slice_get, slice_index_or}
 use Rattle.std.specs.List.{All}
+use Rattle.std.proofs.lemmas.List.{get_or-append-add}
 use Rattle.std.proofs.lemmas.List.Elements.{All-head, All-tail, All-weaker, Contains-get_or}
 use Rattle.std.proofs.lemmas.Option.{slice_get_within}
 use Rattle.llb.specs.declared.op.Op.{Op}
+use Rattle.llb.specs.declared.op.Op.TheVariants.{Merge as MergeOp}
 use Rattle.llb.specs.declared.vertex.Vertex.{Vertex}
 use Rattle.llb.specs.Graph.{GraphValue, AreVertices, IsGraph}
 use Rattle.plain.specs.Marks.{is_marked}
-use Rattle.reached.proofs.SpellingFacts.{there_is, merge_is, flat_other}
-use Rattle.reached.specs.Reached.{AreOnFlat, AreFlattened}
-use Rattle.reached.specs.Spelled.{flat_vertex, is_merge}
-use Rattle.rewrite.specs.PrivateFlat.{MergesDiffer}
+use Rattle.reached.proofs.FlatFacts.{flat_there, flat_back}
+use Rattle.reached.proofs.SpellingFacts.{there_is, merge_is, merge_has_two, flat_other}
+use Rattle.reached.specs.Reached.{AreReached, AreOnFlat, AreFlattened}
+use Rattle.reached.specs.Spelled.{with_first, spelled_out, flat_inputs, flat_vertex, flat_vertices, is_merge}
+use Rattle.rewrite.specs.PrivateFlat.{MergesDiffer, last_of}
 use Rattle.rewrite.specs.PrivateJoined.{AreJoinable, AreDistinct, ComesNew, AreJoined}
 use Rattle.rewrite.specs.Pruned.{Names, AreNames, IsRenamed}
+use Rattle.rewrite.proofs.ReachFacts.{flat_reached}
+use Rattle.rewrite.proofs.MarkedFacts.{reached_marked}
 
 abbrev vertex_of : Op → List ℕ → Vertex
 vertex_of op inputs = record { op = op; inputs = inputs }
 
 -- inputs that have the same new numbers are the same, where none of those below a number share one
-same_olds : (names : Names) (n : ℕ) (os ps news : List ℕ)
+pub same_olds : (names : Names) (n : ℕ) (os ps news : List ℕ)
     → ((j k a : ℕ) → j < n → k < n → slice_get names j ≡ Some (Some a) → slice_get names k ≡ Some (Some a) → j ≡ k)
     → All (λ i. i < n) os → All (λ i. i < n) ps → AreNames names os news → AreNames names ps news → os ≡ ps
 same_olds names n [] [] [] one low less a b = refl
@@ -85,32 +90,69 @@ module _ (old new : GraphValue) (marks : List Bool) (names : Names) (at : ℕ) (
       let same : k.0 ≡ at = distinct k.0 at v (joined.marked k.0 m k.1) marked (w.1 ∙ ap Some (ap₂ vertex_of ops inputs)) there in
       absurd (omega (arith, same, low, joined.long))
 
-module _ (vs put : List Vertex) (marks : List Bool) (are : AreVertices vs) (on : AreOnFlat vs marks put) where
-  -- what is no merge stands where it stood
-  other_there : (k : ℕ) (v : Vertex) → is_marked marks k ≡ true → slice_get put k ≡ Some v → is_merge v.op ≡ false → slice_get vs k ≡ Some v
-  other_there k v marked there other =
-      let x = there_is vs k (let lt = slice_get_within put k v there in omega (arith, lt, on.long)) in
-      let flat : flat_vertex vs x.0 ≡ v = (let f : Some (flat_vertex vs x.0) ≡ Some v = sym (on.there k x.0 marked x.1) ∙ there in cc) in
-      let x_other : is_merge x.0.op ≡ false = ap (λ (y : Vertex). is_merge y.op) flat ∙ other in
-      let same : flat_vertex vs x.0 ≡ x.0 = ap (λ ins. vertex_of x.0.op ins) (flat_other vs x.0.op x.0.inputs x_other) in
-      x.1 ∙ ap Some (sym same ∙ flat)
+-- ---- on flat inputs
 
-  by_merge : MergesDiffer put marks → (j k : ℕ) (v : Vertex) (b : Bool) → is_merge v.op ≡ b → is_marked marks j ≡ true → is_marked marks k ≡ true
-      → slice_get put j ≡ Some v → slice_get put k ≡ Some v → j ≡ k
-  by_merge differ j k v true merge at_j at_k there_j there_k = differ j k v at_j at_k there_j there_k (merge_is v.op merge)
-  by_merge differ j k v false other at_j at_k there_j there_k =
-      are.once j k v (other_there j v at_j there_j other) (other_there k v at_k there_k other)
+-- the last of some and of more of them
+last_over : (xs ys : List ℕ) → 1 ≤ length ys → last_of (xs ++ ys) ≡ last_of ys
+last_over xs ys some =
+    let long = length-append xs ys in
+    let at : length (xs ++ ys) - 1 ≡ length xs + (length ys - 1) = omega (arith, long, some) in
+    ap (λ n. get_or (xs ++ ys) n 0) at ∙ get_or-append-add xs ys (length ys - 1) 0
 
-  -- if no two merges on flat inputs are equal, no two vertices are
-  flat_distinct : MergesDiffer put marks → AreDistinct put marks
-  flat_distinct differ j k v at_j at_k there_j there_k = by_merge differ j k v (is_merge v.op) refl at_j at_k there_j there_k
+module _ (vs : List Vertex) (are : AreVertices vs) where
+  last_with : (inputs : List ℕ) → 2 ≤ length inputs → last_of (with_first (spelled_out vs) inputs) ≡ last_of inputs
+  last_with [] two = absurd (omega (arith, two))
+  last_with (first ∷ rest) two = last_over (spelled_out vs first) rest (omega (arith, two)) ∙ sym (last_over (first ∷ []) rest (omega (arith, two)))
 
-pub made_distinct : (graph : GraphValue) (target : ℕ) (vertices put : List Vertex) (places : List (List ℕ)) (marks lent_marks : List Bool)
-    (asked : List Vertex) (asked_marks : List Bool) → IsGraph graph → graph ≡ record { vertices = vertices; places = places }
-    → AreFlattened vertices target marks put → lent_marks ≡ marks → asked ≡ put → asked_marks ≡ marks → MergesDiffer asked asked_marks
-    → AreDistinct put lent_marks
-made_distinct graph target vertices put places marks lent_marks asked asked_marks is split flattened lent all all_marks differ =
-    let are : AreVertices vertices = (subst IsGraph split is).vertices in
-    let of_put = subst (λ (vs : List Vertex). MergesDiffer vs asked_marks) all differ in
-    subst (λ (ms : List Bool). AreDistinct put ms) (sym lent)
-    (flat_distinct vertices put marks are flattened.1 (subst (λ (ms : List Bool). MergesDiffer put ms) all_marks of_put))
+  -- a merge on its flat inputs has the last input that it had
+  pub last_flat : (k : ℕ) (v : Vertex) → slice_get vs k ≡ Some v → v.op ≡ MergeOp → last_of (flat_inputs vs v.op v.inputs) ≡ last_of v.inputs
+  last_flat k v there merge =
+      ap (λ (op : Op). last_of (flat_inputs vs op v.inputs)) merge ∙ last_with v.inputs (merge_has_two vs are v k there merge)
+
+  -- what is no merge is what it was
+  pub flat_itself : (v : Vertex) → is_merge v.op ≡ false → flat_vertex vs v ≡ v
+  flat_itself v other = ap (λ ins. vertex_of v.op ins) (flat_other vs v.op v.inputs other)
+
+  module _ (marks before : List Bool) (within : (k : ℕ) → is_marked marks k ≡ true → is_marked before k ≡ true) (differ : MergesDiffer vs before) where
+    by_kind : (j k : ℕ) (v x y : Vertex) (b : Bool) → is_merge v.op ≡ b → is_marked marks j ≡ true → is_marked marks k ≡ true → slice_get vs j ≡ Some x
+        → slice_get vs k ≡ Some y → v ≡ flat_vertex vs x → v ≡ flat_vertex vs y → j ≡ k
+    by_kind j k v x y true merge at_j at_k there_j there_k from_x from_y =
+        let x_op : x.op ≡ MergeOp = merge_is x.op (sym (ap (λ (z : Vertex). is_merge z.op) from_x) ∙ merge) in
+        let y_op : y.op ≡ MergeOp = merge_is y.op (sym (ap (λ (z : Vertex). is_merge z.op) from_y) ∙ merge) in
+        let lasts : last_of x.inputs ≡ last_of y.inputs =
+        sym (last_flat j x there_j x_op) ∙ (ap (λ (z : Vertex). last_of z.inputs) (sym from_x ∙ from_y) ∙ last_flat k y there_k y_op) in
+        differ j k x y (within j at_j) (within k at_k) there_j there_k x_op y_op lasts
+    by_kind j k v x y false other at_j at_k there_j there_k from_x from_y =
+        let x_is : v ≡ x = from_x ∙ flat_itself x (sym (ap (λ (z : Vertex). is_merge z.op) from_x) ∙ other) in
+        let y_is : v ≡ y = from_y ∙ flat_itself y (sym (ap (λ (z : Vertex). is_merge z.op) from_y) ∙ other) in
+        are.once j k v (there_j ∙ ap Some (sym x_is)) (there_k ∙ ap Some (sym y_is))
+
+    -- if no two merges have the same last input, no two vertices on flat inputs are equal
+    pub flat_distinct : AreDistinct (flat_vertices vs) marks
+    flat_distinct j k v at_j at_k there_j there_k =
+        let x = flat_back vs j v there_j in
+        let y = flat_back vs k v there_k in
+        by_kind j k v x.0 y.0 (is_merge v.op) refl at_j at_k x.1 y.1 x.2 y.2
+
+-- nor are those that were put on them
+put_distinct : (vs put : List Vertex) (marks : List Bool) → AreOnFlat vs marks put → AreDistinct (flat_vertices vs) marks → AreDistinct put marks
+put_distinct vs put marks on distinct j k v at_j at_k there_j there_k = distinct j k v at_j at_k (back j at_j there_j) (back k at_k there_k)
+  where
+    back : (i : ℕ) → is_marked marks i ≡ true → slice_get put i ≡ Some v → slice_get (flat_vertices vs) i ≡ Some v
+    back i marked there =
+        let x = there_is vs i (let lt = slice_get_within put i v there in omega (arith, lt, on.long)) in
+        let flat : flat_vertex vs x.0 ≡ v = (let f : Some (flat_vertex vs x.0) ≡ Some v = sym (on.there i x.0 marked x.1) ∙ there in cc) in
+        flat_there vs i x.0 x.1 ∙ ap Some flat
+
+-- what is marked over flat inputs is marked as it stands
+pub marked_before : (vs : List Vertex) (target : ℕ) (marks before : List Bool) → AreReached (flat_vertices vs) target marks → AreReached vs target before → (k : ℕ)
+    → is_marked marks k ≡ true → is_marked before k ≡ true
+marked_before vs target marks before reached all k marked =
+    let path = reached.only k marked in
+    let on = flat_reached vs path.0 target k path.1 in
+    reached_marked vs target before on.0 target k all all.has_first on.1
+
+pub made_distinct : (vs put : List Vertex) (target : ℕ) (marks before : List Bool) → AreVertices vs → AreFlattened vs target marks put
+    → AreReached vs target before → MergesDiffer vs before → AreDistinct put marks
+made_distinct vs put target marks before are flattened all differ =
+    put_distinct vs put marks flattened.1 (flat_distinct vs are marks before (marked_before vs target marks before flattened.0 all) differ)

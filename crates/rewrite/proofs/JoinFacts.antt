@@ -49,7 +49,7 @@ joined_by old new names vertex inputs lines id are adds =
 -- ---- lines
 
 -- the lines of vertices, with these more for one of them
-lines_with : (places : List (List ℕ)) (more : List ℕ) (id k l : ℕ) → id < length places
+pub lines_with : (places : List (List ℕ)) (more : List ℕ) (id k l : ℕ) → id < length places
     → Contains (slice_index_or (places_with more id places) k []) l ↔ (Contains (slice_index_or places k []) l ⊎ ((k ≡ id) × Contains more l))
 lines_with places [] id k l lt = (λ h. inl h, λ cases. elim cases [ inl before ↦ before | inr now ↦ absurd (contains_nil l now.1) ])
 lines_with places (line ∷ more) id k l lt = elim (cases_eq k id) [
@@ -98,7 +98,7 @@ lines_end places more id k l last = elim (cases_eq k id) [
       | inr past ↦ get_or_past (places ++ more ∷ []) n [] (let long = length-append places (more ∷ []) in omega (arith, long, past, ne, last)) ∙ sym (get_or_past places n [] past)
     ]
 
-places_long : (places : List (List ℕ)) (more : List ℕ) (id : ℕ) → length (places_with more id places) ≡ length places
+pub places_long : (places : List (List ℕ)) (more : List ℕ) (id : ℕ) → length (places_with more id places) ≡ length places
 places_long places [] id = refl
 places_long places (line ∷ more) id = length-set places id (with_lines (line ∷ more) (slice_index_or places id []))
 

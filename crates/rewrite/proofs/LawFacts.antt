@@ -18,6 +18,7 @@ use Rattle.reached.proofs.SpellingFacts.{there_is}
 use Rattle.rewrite.specs.Flat.{IsFlattened, MergesAreFlat}
 use Rattle.rewrite.specs.Pruned.{AreNames, HasReachedFailure, IsPruned, KeepsMeaning}
 use Rattle.rewrite.proofs.PrunedFacts.{failed_within, names_first}
+use Rattle.rewrite.proofs.ReachFacts.{named_becomes}
 
 pub built_is : {C : Type 0} (out : Out) (plan pruned : PlanValue C) (rows : Rows) (target : ℕ) (tree : TreeMap) → Means plan rows target
     → KeepsMeaning plan pruned → IsValue (problem_of out pruned) pruned.target (Ok tree)
@@ -73,7 +74,7 @@ pub flat_lined : {C : Type 0} (plan flat : PlanValue C) (id : ℕ) → AreLined 
 flat_lined plan flat id are is lt =
     let k = is.onto id lt in
     let line = are k.0 (let l = slice_get_within is.names k.0 (Some id) k.1 in omega (arith, l, is.long)) in
-    (line.0, (is.lines id line.0 lt).1 (k.0, k.1, line.1))
+    (line.0, (is.lines id line.0 lt).1 (k.0, named_becomes plan flat is k.0 id k.1, line.1))
 
 pub flat_failure_is : {C : Type 0} (out : Out) (plan flat : PlanValue C) (rows : Rows) (target id line : ℕ) (cause : Cause) → Means plan rows target
     → AreLined plan.graph → IsPlan flat → IsFlattened plan flat → KeepsMeaning plan flat

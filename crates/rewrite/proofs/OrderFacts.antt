@@ -26,6 +26,7 @@ use Rattle.rewrite.specs.Flat.{IsFlattened}
 use Rattle.rewrite.specs.Pruned.{HasReachedFailure, IsPruned, KeepsMeaning}
 use Rattle.rewrite.proofs.PrunedFacts.{failed_within}
 use Rattle.rewrite.proofs.LawFacts.{lined, flat_lined, failure_lined}
+use Rattle.rewrite.proofs.ReachFacts.{named_becomes}
 
 -- what holds of some values holds, renamed, of others
 zip_all : {X Y : Type 0} (R : X → Y → Type 0) (P : X → Type 0) (Q : Y → Type 0) → ((x : X) (y : Y) → R x y → P x → Q y)
@@ -104,17 +105,17 @@ flat_by graph line MergeOp (first ∷ rest) in_order all =
 pub flat_in_order : {C : Type 0} (plan flat : PlanValue C) → IsFlattened plan flat → LinesInOrder plan.graph → LinesInOrder flat.graph
 flat_in_order plan flat is in_order = λ id line u there behind.
     let k = (is.lines id line (slice_get_within flat.graph.vertices id u there)).0 behind in
-    let x = there_is plan.graph.vertices k.0 (let l = slice_get_within is.names k.0 (Some id) k.1 in omega (arith, l, is.long)) in
-    let s = is.same k.0 id x.0 k.1 x.1 in
-    let one : s.0 ≡ u = (let f : Some s.0 ≡ Some u = sym s.1 ∙ there in cc) in
-    let old = flat_by plan.graph line x.0.op x.0.inputs in_order (in_order k.0 line x.0 x.1 k.2) in
+    let x = k.1.vertex in
+    let s = k.1.renamed in
+    let one : s ≡ u = (let f : Some s ≡ Some u = sym k.1.is ∙ there in cc) in
+    let old = flat_by plan.graph line x.op x.inputs in_order (in_order k.0 line x k.1.there k.2) in
     subst (λ (y : Vertex). All (HasLineBy flat.graph line) y.inputs) one
     (zip_all (λ old new. slice_get is.names old ≡ Some (Some new)) (HasLineBy plan.graph line) (HasLineBy flat.graph line)
     (λ j i named by.
     let y = there_is plan.graph.vertices j (let l = slice_get_within is.names j (Some i) named in omega (arith, l, is.long)) in
     let t = is.same j i y.0 named y.1 in
-    (by.0, (is.lines i by.0 (slice_get_within flat.graph.vertices i t.0 t.1)).1 (j, named, by.1), by.2))
-    (flat_inputs plan.graph.vertices x.0.op x.0.inputs) s.0.inputs s.2.inputs old)
+    (by.0, (is.lines i by.0 (slice_get_within flat.graph.vertices i t.0 t.1)).1 (j, named_becomes plan flat is j i named, by.1), by.2))
+    (flat_inputs plan.graph.vertices x.op x.inputs) s.inputs k.1.same.inputs old)
 
 -- ---- least lines
 

@@ -24,20 +24,11 @@ use Rattle.lowering.specs.Means.{world}
 use Rattle.lowering.proofs.ValueFacts.{vertex_is}
 use Rattle.rewrite.specs.PrivateJoined.{HasName, AreJoinable, AreJoined}
 use Rattle.plain.specs.Marks.{is_marked, IsPath}
-use Rattle.plain.proofs.MarkFacts.{path_within}
 use Rattle.reached.proofs.SpellingFacts.{there_is}
 use Rattle.reached.specs.Reached.{AreReached}
 use Rattle.rewrite.specs.Pruned.{Names, AreNames, IsRenamed, IsPruned, KeepsMeaning}
+use Rattle.rewrite.proofs.MarkedFacts.{reached_marked, marked_within}
 use Rattle.rewrite.proofs.OnceFacts.{graph_joinable, in_order, own_lines}
-
--- what is reached is marked
-pub reached_marked : (vertices : List Vertex) (target : ℕ) (marks : List Bool) (path : List ℕ) (from to : ℕ) → AreReached vertices target marks
-    → is_marked marks from ≡ true → IsPath (HasInput vertices) from path to → is_marked marks to ≡ true
-reached_marked vertices target marks path from to are marked leads =
-    path_within (HasInput vertices) (is_marked marks) from path to are.closed marked leads
-
-pub marked_within : (marks : List Bool) (k : ℕ) → is_marked marks k ≡ true → k < length marks
-marked_within marks k is = elim (cases_lt k (length marks)) [ inl lt ↦ lt | inr past ↦ absurd (true≢false (sym is ∙ get_or_past marks k false past)) ]
 
 -- the vertices that were kept make a pruned plan
 pub kept_pruned : {C : Type 0} (plan new : PlanValue C) (graph kept : GraphValue) (target last : ℕ) (config : C) (sources : SourcesValue)

@@ -14,8 +14,18 @@ abbrev pub MergesAreFlat : List Vertex → Type 0
 MergesAreFlat vertices = (merge first : ℕ) (v u : Vertex) (rest : List ℕ) → slice_get vertices merge ≡ Some v → v.op ≡ MergeOp → v.inputs ≡ first ∷ rest
     → slice_get vertices first ≡ Some u → u.op ≢ MergeOp
 
+-- A vertex of a plan becomes one of another: the target reached it, and on its flat inputs, under their new numbers, it is that one. So does a
+-- merge that was replaced wherever it stood, if an equal one is left.
+pub record Becomes {C : Type 0} (old new : PlanValue C) (names : Names) (k id : ℕ) : Type 0 where
+  pub reached : Reaches old.graph.vertices old.target k
+  pub vertex : Vertex
+  pub there : slice_get old.graph.vertices k ≡ Some vertex
+  pub renamed : Vertex
+  pub is : slice_get new.graph.vertices id ≡ Some renamed
+  pub same : IsRenamed names (flat_vertex old.graph.vertices vertex) renamed
+
 -- A plan is another one with its vertices on their flat inputs, without those that the target doesn't reach then. Vertices that became
--- equal are one, which stands where the first of them stood and has the lines of all of them.
+-- equal are one, which stands where the first of those stood that are reached then, and has the lines of all that became it.
 pub record IsFlattened {C : Type 0} (old new : PlanValue C) : Type 0 where
   pub names : Names
   pub long : length names ≡ length old.graph.vertices
@@ -25,7 +35,7 @@ pub record IsFlattened {C : Type 0} (old new : PlanValue C) : Type 0 where
   pub same : (k id : ℕ) (v : Vertex) → slice_get names k ≡ Some (Some id) → slice_get old.graph.vertices k ≡ Some v
       → (u : Vertex) × (slice_get new.graph.vertices id ≡ Some u) × IsRenamed names (flat_vertex old.graph.vertices v) u
   pub lines : (id line : ℕ) → id < length new.graph.vertices
-      → Contains (lines_at new.graph id) line ↔ ((k : ℕ) × (slice_get names k ≡ Some (Some id)) × Contains (lines_at old.graph k) line)
+      → Contains (lines_at new.graph id) line ↔ ((k : ℕ) × Becomes old new names k id × Contains (lines_at old.graph k) line)
   pub last : slice_get names old.target ≡ Some (Some new.target)
   pub config : new.config ≡ old.config
   pub sources : new.sources ≡ old.sources

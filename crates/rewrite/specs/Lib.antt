@@ -1,4 +1,5 @@
 pub mod Flat
 pub mod PrivateFlat
 pub mod PrivateJoined
+pub mod PrivateSpelled
 pub mod Pruned

@@ -24,14 +24,14 @@ link_below vertices vertex = if is_merge vertex.op then first_merge vertices ver
 abbrev pub stands_flat : List Vertex → Vertex → Bool
 stands_flat vertices vertex = not (is_some (link_below vertices vertex))
 
--- no two of the merges that are marked have the same inputs
-abbrev pub MergesDiffer : List Vertex → List Bool → Type 0
-MergesDiffer vertices marks = (j k : ℕ) (v : Vertex) → is_marked marks j ≡ true → is_marked marks k ≡ true → slice_get vertices j ≡ Some v
-    → slice_get vertices k ≡ Some v → v.op ≡ MergeOp → j ≡ k
-
 -- the last of some inputs
 abbrev pub last_of : List ℕ → ℕ
 last_of ids = get_or ids (length ids - 1) 0
+
+-- no two of the merges that are marked have the same last input
+abbrev pub MergesDiffer : List Vertex → List Bool → Type 0
+MergesDiffer vertices marks = (j k : ℕ) (v w : Vertex) → is_marked marks j ≡ true → is_marked marks k ≡ true → slice_get vertices j ≡ Some v
+    → slice_get vertices k ≡ Some w → v.op ≡ MergeOp → w.op ≡ MergeOp → last_of v.inputs ≡ last_of w.inputs → j ≡ k
 
 -- the last of these wasn't marked and is, and what was marked is
 pub record MarksLast (old new : List Bool) (ids : List ℕ) : Type 0 where

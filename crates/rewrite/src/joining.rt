@@ -24,7 +24,7 @@ pub(crate) fn find_name(names: &[Option<VertexId>], id: VertexId) -> VertexId
 }
 
 /// The new numbers of these vertices, in place of the old ones.
-fn rename(names: &[Option<VertexId>], inputs: Items<VertexId>) -> Items<VertexId>
+pub(crate) fn rename(names: &[Option<VertexId>], inputs: Items<VertexId>) -> Items<VertexId>
     requires { All (HasName names.now) inputs }
     ensures { AreNames names.now inputs result }
 {

@@ -15,6 +15,7 @@ pub mod laws;
 mod links;
 mod pruning;
 mod shrinking;
+mod spelled;
 
 pub use links::{flatten_links, is_flat};
 pub use pruning::prune;

@@ -1,16 +1,18 @@
 // Puts the links of a plan into one.
-ghost use Rattle.std.specs.Prelude.{◌≡◌, ◌↔◌, true, length, IfOk, IsTrue};
+ghost use Rattle.std.specs.Prelude.{◌≡◌, ◌<◌, ◌↔◌, true, length, IfOk, IsTrue};
 ghost use Rattle.plans.specs.Plan.{problem_of, NeedsAll};
 ghost use Rattle.plans.specs.Value.{Out};
 ghost use Rattle.rewrite.specs.Flat.{IsFlattened, MergesAreFlat};
 ghost use Rattle.rewrite.specs.PrivateFlat.{link_below, MergesDiffer, MarksLast};
+ghost use Rattle.rewrite.specs.PrivateSpelled.{IsFlatOf};
 ghost use Rattle.rewrite.specs.Pruned.{KeepsMeaning};
 
 use crate::joining::{Joined, find_name, join_all};
-use llb::{Vertex, VertexId};
+use crate::spelled::{spell_merges, take_lines};
+use llb::{Graph, Vertex, VertexId};
 use plain::{Memory, no_marks};
 use plans::Plan;
-use reached::{Flattened, flatten_reached, is_merge};
+use reached::{Flattened, flatten_reached, is_merge, mark_reached};
 use std::alloc::Global;
 use std::mem;
 
@@ -18,9 +20,9 @@ use std::mem;
 /// stage with several `COPY --link` one after another is one merge of its base and of what each of them copied.
 ///
 /// What the target doesn't reach goes, also a merge that was replaced wherever it stood. Vertices that become equal are one, with the lines
-/// of all of them. The target has the value that it had, and of the vertices that fail those are left, with their lines and causes, that
+/// of all of them, also those of a merge that went so. The target has the value that it had, and of the vertices that fail those are left, with their lines and causes, that
 /// the target reaches; the configuration and the sources stay. Every plan may be flattened. It takes as many steps as the two plans have
-/// vertices, inputs and lines. After `Memory` the plan is gone.
+/// vertices, inputs and lines, unless two merges have the same last input: then each merge before is spelled out too, and looked for. After `Memory` the plan is gone.
 pub fn flatten_links<C: Drop>(alloc: Global, plan: Plan<C>) -> Result<Plan<C>, Memory>
     ensures flattened { IfOk result (IsFlattened plan) }
     ensures flat { IfOk result (λ flat. MergesAreFlat flat.graph.vertices) }
@@ -28,23 +30,40 @@ pub fn flatten_links<C: Drop>(alloc: Global, plan: Plan<C>) -> Result<Plan<C>, M
     ensures needed { IfOk result (λ flat. (out : Out) → NeedsAll (problem_of out flat)) }
 {
     let (graph, target, config, sources) = plan.into_parts();
-    let (vertices, places) = graph.into_parts();
-    let Flattened { vertices, marks } = flatten_reached(alloc, vertices, target)?;
-    let differ = do_merges_differ(alloc, vertices.as_slice(), marks.as_slice())?;
-    let Joined { graph: flat, names } = join_all(
-        alloc,
-        vertices,
-        places,
-        marks.as_slice(),
-        differ,
-    )?;
+    let Joined { graph: flat, names } = flatten_graph(alloc, graph, target)?;
     let _known = flat.vertices();
     let target = find_name(names.as_slice(), target);
     Ok(Plan::new(flat, target, config, sources))
 }
 
-/// Whether each of the merges that are marked has a last input of its own, so that no two of them are equal. It takes one pass and compares no
-/// lists. It is `false` also where merges differ, but not in their last input.
+/// The graph of what the target reaches once links are put into one, and its vertices' new numbers. If two of the merges that the target reached may be
+/// equal, each of these is spelled out, also one that was replaced, so that its lines are found.
+fn flatten_graph(alloc: Global, graph: Graph, target: VertexId) -> Result<Joined, Memory>
+    requires { target < length graph.vertices }
+    ensures { IfOk result (λ joined. IsFlatOf graph target joined.graph joined.names) }
+{
+    let (vertices, places) = graph.into_parts();
+    let before = mark_reached(alloc, vertices.as_slice(), target)?;
+    let differ = do_merges_differ(alloc, vertices.as_slice(), before.as_slice())?;
+    let spelled = spell_merges(
+        alloc,
+        vertices.as_slice(),
+        places.as_slice(),
+        before.as_slice(),
+        differ,
+    )?;
+    let Flattened { vertices, marks } = flatten_reached(alloc, vertices, target)?;
+    let Joined {
+        graph: joined,
+        names,
+    } = join_all(alloc, vertices, places, marks.as_slice(), differ)?;
+    let _known = joined.vertices();
+    let graph = take_lines(alloc, joined, names.as_slice(), spelled.as_slice())?;
+    Ok(Joined { graph, names })
+}
+
+/// Whether each of the merges that are marked has a last input of its own, so that no two of them are equal, also on flat inputs. It takes one pass
+/// and compares no lists. It is `false` also where merges differ, but not in their last input.
 fn do_merges_differ(alloc: Global, vertices: &[Vertex], marks: &[bool]) -> Result<bool, Memory>
     requires { length marks.now ≡ length vertices.now }
     ensures { IfOk result (λ differ. differ ≡ true → MergesDiffer vertices.now marks.now) }
