@@ -9,7 +9,7 @@ use Rattle.ignorefile.specs.declared.line.Line.{Line}
 use Rattle.ignorefile.specs.Line.{Relates, is_deep}
 use Rattle.ignorefile.specs.Kept.{Touches, TouchesAt, Kept, IsDeciding, LetsKeep}
 use Rattle.ignorefile.specs.declared.positions.Positions.{Positions}
-use Rattle.ignorefile.specs.PrivateRanks.{RelatesAt, Member, AreInOrder, IsBest, IsVerdict, IsDecided, Lets}
+use Rattle.ignorefile.specs.PrivateRanks.{RelatesAt, Member, AreInOrder, IsBest, IsVerdict, IsDecided, Lets, IsShared}
 use Rattle.ignorefile.specs.PrivatePositions.{under}
 use Rattle.ignorefile.specs.PrivateIndex.{IsIndex, IsFound, named, lying, under_begin}
 use Rattle.ignorefile.proofs.Lines.{Holds}
@@ -236,6 +236,14 @@ decided-more lines names front d before rank l is dec v =
 
 pub decided-path : (lines : List Line) (names path : List (List ℕ)) (d rank : ℕ) → length names ≤ d → names ≡ path → IsDecided lines (take d names) rank → IsDecided lines path rank
 decided-path lines names path d rank l is dec = subst (λ (x : List (List ℕ)). IsDecided lines x rank) (take_all d names l ∙ is) dec
+
+-- what is decided of a folder, handed down to a path that lies right in it
+pub decided-below : (lines : List Line) (above names path : List (List ℕ)) (shared before rank : ℕ) → IsShared above names shared → shared ≡ length above → length names ≡ length above + 1 → names ≡ path → IsDecided lines above before → IsVerdict lines names before rank
+    → IsDecided lines path rank
+decided-below lines above names path shared before rank s whole-of longer is dec v =
+    let same : above ≡ take (length above) names = sym (take_all (length above) above (omega arith)) ∙ subst (λ (n : ℕ). take n above ≡ take n names) whole-of s.same in
+    decided-path lines names path (length above + 1) rank (omega arith) is
+    (decided-more lines names names (length above) before rank (omega arith) (sym (take_all (length above + 1) names (omega arith))) (subst (λ (x : List (List ℕ)). IsDecided lines x before) same dec) v)
 
 pub decided-all : (lines : List Line) (names path : List (List ℕ)) (d rank : ℕ) → length names ≤ d → names ≡ path → IsDecided lines (take d names) rank → Lets lines rank ↔ Kept lines path
 decided-all lines names path d rank l is dec = decided-kept lines path rank (decided-path lines names path d rank l is dec)

@@ -6,3 +6,4 @@ pub mod PrivatePositions
 pub mod PrivateIndex
 pub mod PrivateLeft
 pub mod PrivateFile
+pub mod Walk

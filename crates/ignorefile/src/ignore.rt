@@ -18,8 +18,8 @@ use std::marker::Model;
 /// An ignore file. Contracts see its lines.
 #[derive(Drop)]
 pub struct Ignore {
-    lines: Items<Line>,
-    index: Index,
+    pub(crate) lines: Items<Line>,
+    pub(crate) index: Index,
 }
 
 impl Model for Ignore {
@@ -34,8 +34,19 @@ impl Model for Ignore {
     ghost invariant = { λ i. IsIndex i.lines i.index.by_name.entries i.index.by_folder.entries i.index.by_begin i.index.by_count i.index.others };
 }
 
+/// Whether a line of this rank lets a path be kept.
+pub(crate) fn lets(lines: &[Line], rank: usize) -> bool
+    requires { rank ≤ length lines.now }
+    ensures { IsTrue result ↔ Lets lines.now rank }
+{
+    if rank == 0 {
+        return true;
+    }
+    lines[rank - 1].exception
+}
+
 /// How many first names two paths share.
-fn count_shared(these: &[Text], those: &[Text]) -> usize
+pub(crate) fn count_shared(these: &[Text], those: &[Text]) -> usize
     ensures { IsShared these.now those.now result }
 {
     let most = these.len().min(those.len());
@@ -101,29 +112,11 @@ impl Ignore {
         Ok(ignore)
     }
 
-    /// Whether a line of this rank lets a path be kept.
-    fn lets(&self, rank: usize) -> bool
-        requires { rank ≤ length self.now }
-        ensures { IsTrue result ↔ Lets self.now rank }
-    {
-        if rank == 0 {
-            return true;
-        }
-        let line = &self.lines.as_slice()[rank - 1];
-        line.exception
-    }
-
     /// The rank of the line that decides of a path.
-    fn rank(&self, path: &Path) -> usize
+    pub(crate) fn rank(&self, path: &Path) -> usize
         ensures { IsDecided self.now path.now result }
     {
-        let names = path.components();
-        let lines = self.lines.as_slice();
-        let mut decided = self.index.verdict(lines, &[], 0);
-        for depth in 0..names.len() {
-            decided = self.index.verdict(lines, &names[..depth + 1], decided);
-        }
-        decided
+        self.index.rank(self.lines.as_slice(), path.components())
     }
 
     /// Whether a path is kept: no line relates to it or to a folder that it lies in, or the last one that does is an exception. It
@@ -131,7 +124,7 @@ impl Ignore {
     pub fn keeps(&self, path: &Path) -> bool
         ensures { IsTrue result ↔ Kept self.now path.now }
     {
-        self.lets(self.rank(path))
+        lets(self.lines.as_slice(), self.rank(path))
     }
 
     /// Which line decides of a path: the position of the last one that relates to it or to a folder that it lies in; none where no line
@@ -166,7 +159,7 @@ impl Ignore {
                 left = index.left_in(alloc, lines, folder)?;
             }
             index.hand_down(lines, &left, names, shared, &mut decided);
-            flags.push(self.lets(decided[names.len()]))?;
+            flags.push(lets(lines, decided[names.len()]))?;
             last = names;
         }
         Ok(flags)

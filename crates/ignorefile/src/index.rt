@@ -276,7 +276,7 @@ impl Index {
     }
 
     /// The same, of a path that lies right in the folder that left this.
-    fn verdict_left(&self, lines: &[Line], left: &Left, names: &[Text], above: usize) -> usize
+    pub(crate) fn verdict_left(&self, lines: &[Line], left: &Left, names: &[Text], above: usize) -> usize
         requires index { IsIndex lines.now self.now.by_name.entries self.now.by_folder.entries self.now.by_begin self.now.by_count self.now.others }
         requires left { IsLeft lines.now self.now (take (length names.now - 1) names.now) left.now }
         requires some { 1 ≤ length names.now }
@@ -287,6 +287,18 @@ impl Index {
         let low = best_leaf(lines, left.others.as_slice(), names, last, least);
         let middle = best_leaf(lines, left.counted.as_slice(), names, last, low);
         self.verdict_found(lines, names, middle)
+    }
+
+    /// The rank of the line that decides of a path.
+    pub(crate) fn rank(&self, lines: &[Line], names: &[Text]) -> usize
+        requires { IsIndex lines.now self.now.by_name.entries self.now.by_folder.entries self.now.by_begin self.now.by_count self.now.others }
+        ensures { IsDecided lines.now names.now result }
+    {
+        let mut decided = self.verdict(lines, &[], 0);
+        for depth in 0..names.len() {
+            decided = self.verdict(lines, &names[..depth + 1], decided);
+        }
+        decided
     }
 
     /// What a folder leaves.

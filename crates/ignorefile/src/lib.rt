@@ -22,8 +22,10 @@ mod index;
 pub mod laws;
 mod line;
 mod positions;
+mod walk;
 
 pub use fault::{BadLine, IgnoreFault};
 pub use file::line_numbers;
 pub use ignore::Ignore;
 pub use line::{Line, Segment};
+pub use walk::{Decided, FolderLines};

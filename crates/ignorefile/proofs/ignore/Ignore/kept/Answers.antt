@@ -1,7 +1,9 @@
+use Rattle.std.specs.Prelude.{◌↔◌, IsTrue}
 use Rattle.std.proofs.Common.{arith, refl, ◌∙◌, ◌≤◌, ◌-◌, sym, subst, List, ℕ, length, take, get_or, replicate}
 use Rattle.ignorefile.specs.declared.line.Line.{Line}
 use Rattle.ignorefile.specs.declared.index.Left.{Left}
 use Rattle.ignorefile.specs.PrivateLeft.{IsLeft}
+use Rattle.ignorefile.specs.PrivateRanks.{Lets}
 use Rattle.ignorefile.proofs.Deciding.{decided-within}
 use Rattle.ignorefile.proofs.Handing.{Handed, handed-start, handed-shared, flags-none, flags-more}
 use Rattle.ignorefile.proofs.Leaving.{one-folder}
@@ -32,16 +34,15 @@ pub hand_down-requires-clause-before : goal.hand_down-requires-clause-before
 hand_down-requires-clause-before g c = handed-shared _ _ _ _ _ c.count_shared-shared.ensures c.loop-row.invariant.handed
 
 pub lets-requires : goal.lets-requires
-lets-requires g c =
-    subst (λ (l : List Line). get_or c.hand_down.new.decided (length c.components-names.result.now) 0 ≤ length l) (c.as_slice-lines.ensures ∙ c.self.view_is)
-    (decided-within _ _ _ (c.hand_down.ensures (length c.components-names.result.now) (omega arith)))
+lets-requires g c = decided-within _ _ _ (c.hand_down.ensures (length c.components-names.result.now) (omega arith))
 
 pub loop-row-preserved : goal.loop-row-preserved
 loop-row-preserved g c = record {
   handed = c.hand_down.ensures;
   few = subst (λ (p : List (List ℕ)). length p ≤ 64) (sym c.components-names.ensures.value) c.components-names.ensures.clean.few;
   flags = flags-more _ _ _ _ _ _ _ _ _ c.loop-row-test.true c.row-item.is c.components-names.ensures.value c.loop-row.invariant.flags
-      (subst (λ (l : List Line). Handed l c.components-names.result.now c.hand_down.new.decided (length c.components-names.result.now)) (c.as_slice-lines.ensures ∙ c.self.view_is) c.hand_down.ensures) c.lets.ensures c.in_ok-push.ensures.items;
+      (subst (λ (l : List Line). Handed l c.components-names.result.now c.hand_down.new.decided (length c.components-names.result.now)) (c.as_slice-lines.ensures ∙ c.self.view_is) c.hand_down.ensures)
+      (subst (λ (l : List Line). IsTrue c.lets.result ↔ Lets l (get_or c.hand_down.new.decided (length c.components-names.result.now) 0)) (c.as_slice-lines.ensures ∙ c.self.view_is) c.lets.ensures) c.in_ok-push.ensures.items;
   left = elim c.if-shared-folder.branch [
     | then-shared-folder+in_ok-left-2 w ↦
         subst (λ (l : Left). IsLeft c.as_slice-lines.result.now c.self.inside.index (take (length c.components-names.result.now - 1) c.components-names.result.now) l) (sym w.left-is)
