@@ -1,4 +1,4 @@
-ghost use Rattle.std.specs.Prelude.{◌≡◌, ◌↔◌, ◌≤◌, ◌-◌, IsTrue, IfOk, length, take};
+ghost use Rattle.std.specs.Prelude.{◌≡◌, ◌↔◌, ◌≤◌, ◌-◌, IsTrue, IfOk, [], length, take};
 ghost use Rattle.std.specs.List.{AllZip};
 ghost use Rattle.ignorefile.specs.Kept.{Kept, IsDeciding, LetsKeep};
 ghost use Rattle.ignorefile.specs.File.{IsIgnoreRead, ignore_of};
@@ -59,6 +59,22 @@ pub(crate) fn count_shared(these: &[Text], those: &[Text]) -> usize
 }
 
 impl Ignore {
+    /// An ignore file without lines, which keeps every path. It takes no memory.
+    pub fn none(alloc: Global) -> Ignore
+        ensures { result ≡ [] }
+    {
+        Ignore {
+            lines: Items::new(alloc),
+            index: Index {
+                by_name: BTreeMap::new(alloc),
+                by_begin: Positions::new(alloc),
+                by_folder: BTreeMap::new(alloc),
+                by_count: Positions::new(alloc),
+                others: Items::new(alloc),
+            },
+        }
+    }
+
     /// The ignore file of these lines.
     fn from_lines(alloc: Global, lines: Vec<Line>) -> Result<Ignore, Memory>
         ensures { IfOk result (λ ignore. ignore ≡ lines.items) }

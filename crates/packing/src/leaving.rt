@@ -1,19 +1,20 @@
 // What a folder's bundle leaves out: what its ignore file does, and bytes of files where names alone are packed.
-ghost use Rattle.std.specs.Prelude.{◌≡◌, ◌↔◌, IsTrue};
-ghost use Rattle.packing.specs.PrivateLeaving.{IsKept, IsPacked, has_bytes, is_own};
+ghost use Rattle.std.specs.Prelude.{◌≡◌, ◌↔◌, [], IfOk, IsTrue, Ok};
+ghost use Rattle.ignorefile.specs.File.{ignore_of};
+ghost use Rattle.packing.specs.PrivateLeaving.{IsPacked, has_bytes, is_own};
 
 use crate::folder::DOCKERFILE;
-use ignorefile::{Ignore, IgnoreFault};
+use ignorefile::{Decided, Ignore, IgnoreFault};
 use paths::Path;
 use std::alloc::Global;
 
 /// The name of a context's ignore file, which also ends the name of a Dockerfile's own.
 pub(crate) const IGNORE_FILE: &str = ".dockerignore";
 
-/// The ignore file by whose lines entries are left out; none, and then all are packed. And whether bytes are.
+/// The ignore file by whose lines entries are left out; one without lines, and then all are packed. And whether bytes are.
 #[derive(Drop)]
 pub(crate) struct Leaving {
-    ignore: Option<Ignore>,
+    ignore: Ignore,
     /// Whether the folder's file `Dockerfile` is the bundle's, and so is packed whatever the lines say.
     dockerfile: bool,
     /// Whether a line may be an exception, by which something is kept in a folder that is left out.
@@ -24,9 +25,13 @@ pub(crate) struct Leaving {
 
 impl Leaving {
     /// No entry is left out, where the folder's file `Dockerfile` is the bundle's or isn't. It takes no memory.
-    pub(crate) fn nothing(dockerfile: bool, names: bool) -> Leaving {
+    pub(crate) fn nothing(alloc: Global, dockerfile: bool, names: bool) -> Leaving
+        ensures lines { result.ignore ≡ [] }
+        ensures own { result.dockerfile ≡ dockerfile }
+        ensures names { result.names ≡ names }
+    {
         Leaving {
-            ignore: None,
+            ignore: Ignore::none(alloc),
             dockerfile,
             may_except: false,
             names,
@@ -39,31 +44,33 @@ impl Leaving {
         bytes: &[u8],
         dockerfile: bool,
         names: bool,
-    ) -> Result<Leaving, IgnoreFault> {
+    ) -> Result<Leaving, IgnoreFault>
+        ensures lines { IfOk result (λ leaving. ignore_of bytes.now ≡ Ok leaving.ignore) }
+        ensures own { IfOk result (λ leaving. leaving.dockerfile ≡ dockerfile) }
+        ensures names { IfOk result (λ leaving. leaving.names ≡ names) }
+    {
         let ignore = Ignore::read(alloc, bytes)?;
         Ok(Leaving {
-            ignore: Some(ignore),
+            ignore,
             dockerfile,
             may_except: bytes.contains(&b'!'),
             names,
         })
     }
 
-    /// Whether what has this path is packed: the ignore file keeps it, or it is that file itself or the bundle's Dockerfile.
-    pub(crate) fn packs(&self, path: &Path) -> bool
-        ensures { IsTrue result ↔ IsPacked self.now path.now }
+    /// The root of the folder, from which it is walked.
+    pub(crate) fn root(&self, alloc: Global) -> Decided<'_>
+        ensures lines { result.lines ≡ self.now.ignore }
+        ensures path { result.path ≡ [] }
     {
-        self.is_own(path) || self.keeps(path)
+        self.ignore.at_root(alloc)
     }
 
-    /// Whether the ignore file keeps a path.
-    fn keeps(&self, path: &Path) -> bool
-        ensures { IsTrue result ↔ IsKept self.now path.now }
+    /// Whether what has this path is packed: the lines keep it, or it is that of the ignore file itself or of the bundle's Dockerfile.
+    pub(crate) fn packs(&self, at: &Decided<'_>) -> bool
+        ensures { IsTrue result ↔ IsPacked self.now.dockerfile at.now }
     {
-        match &self.ignore {
-            Some(ignore) => ignore.keeps(path),
-            None => true,
-        }
+        self.is_own(at.path()) || at.is_kept()
     }
 
     /// Whether a path is that of the ignore file, or of the bundle's Dockerfile.
@@ -86,7 +93,7 @@ impl Leaving {
     }
 
     /// Whether nothing in the folder at this path can be packed, nor the folder itself.
-    pub(crate) fn leaves_whole(&self, path: &Path) -> bool {
-        !self.may_except && !self.packs(path)
+    pub(crate) fn leaves_whole(&self, at: &Decided<'_>) -> bool {
+        !self.may_except && !self.packs(at)
     }
 }

@@ -14,6 +14,7 @@ use crate::refusing::{
     refuse_entry, refuse_error, refuse_line,
 };
 use crate::{PackFault, PackOptions};
+use ignorefile::{Decided, FolderLines};
 use paths::Path;
 use plain::{Bytes, Fault, Items, Text};
 use serde_json::Value;
@@ -189,7 +190,7 @@ fn read_with_own<R: Files + AllocGlobal + Clone + Drop>(
     let leaving = if options.apply_ignore {
         leaving_by(alloc, name, bytes.as_slice(), false, options.names, why)
     } else {
-        Ok(Leaving::nothing(false, options.names))
+        Ok(Leaving::nothing(alloc, false, options.names))
     };
     let leaving = match leaving {
         Ok(leaving) => leaving,
@@ -274,7 +275,7 @@ fn folder_leaving<R: Files + AllocGlobal>(
     ensures { IfErr result IsBefore }
 {
     if !options.apply_ignore {
-        return Ok(Leaving::nothing(dockerfile, options.names));
+        return Ok(Leaving::nothing(alloc, dockerfile, options.names));
     }
     let mut place = String::from_str(alloc, folder)?;
     place.push('/')?;
@@ -292,7 +293,7 @@ fn folder_leaving<R: Files + AllocGlobal>(
             drop(bytes);
             leaving
         }
-        None => Ok(Leaving::nothing(dockerfile, options.names)),
+        None => Ok(Leaving::nothing(alloc, dockerfile, options.names)),
     }
 }
 
@@ -409,45 +410,40 @@ fn read_all<R: Files + AllocGlobal + Clone + Drop>(
     ensures { IfErr result IsBefore }
 {
     let mut left = Vec::new(alloc);
-    left.push(Path::root(alloc))?;
+    left.push(leaving.root(alloc))?;
     // There are fewer directories than that; what isn't read by then is no folder.
     for _ in 0..u64::MAX {
-        let Some(path) = left.pop() else {
+        let Some(at) = left.pop() else {
             return Ok(());
         };
-        let place = place_of(alloc, folder, &path)?;
-        read_names(
-            rt,
-            alloc,
-            place.as_str(),
-            &path,
-            leaving,
-            found,
-            &mut left,
-            why,
-        )?;
+        read_names(rt, alloc, folder, at, leaving, found, &mut left, why)?;
     }
     Err(refuse(alloc, why, folder, TOO_MANY))
 }
 
-/// Adds what is packed of one directory of a folder, which the machine has at this place, and lists the directories among it that are to be read.
-fn read_names<R: Files + AllocGlobal + Clone + Drop>(
+/// Adds what is packed of one directory of a folder, and lists the directories among it that are to be read.
+fn read_names<'a, R: Files + AllocGlobal + Clone + Drop>(
     rt: &R,
     alloc: Global,
-    place: &str,
-    path: &Path,
+    folder: &str,
+    at: Decided<'a>,
     leaving: &Leaving,
     found: &mut Folder,
-    left: &mut Vec<Path>,
+    left: &mut Vec<Decided<'a>>,
     why: &mut Text,
 ) -> Result<(), PackFault>
     ensures { IfErr result IsBefore }
 {
+    let place = place_of(alloc, folder, at.path())?;
+    let lines = at.folder(alloc)?;
+    let place = place.as_str();
     match fs::read_dir(rt, place) {
         Ok(rows) => {
             for row in rows {
                 match row {
-                    Ok(row) => read_row(rt, alloc, &row, path, leaving, found, left, why)?,
+                    Ok(row) => {
+                        read_row(rt, alloc, &row, at.path(), &lines, leaving, found, left, why)?
+                    }
                     Err(error) => return Err(refuse_error(alloc, why, place, &error)),
                 }
             }
@@ -458,36 +454,57 @@ fn read_names<R: Files + AllocGlobal + Clone + Drop>(
 }
 
 /// Adds one file or directory that lies in the directory of this path, if it is packed.
-fn read_row<R: Files + AllocGlobal>(
+fn read_row<'a, R: Files + AllocGlobal>(
     rt: &R,
     alloc: Global,
     row: &DirEntry<R>,
-    path: &Path,
+    folder: &Path,
+    lines: &FolderLines<'_, 'a>,
     leaving: &Leaving,
     found: &mut Folder,
-    left: &mut Vec<Path>,
+    left: &mut Vec<Decided<'a>>,
     why: &mut Text,
 ) -> Result<(), PackFault>
     ensures { IfErr result IsBefore }
 {
     let at = row.path();
     let place = at.as_str();
-    match path.join(alloc, row.file_name()) {
-        Ok(path) if leaving.leaves_whole(&path) => Ok(()),
-        Ok(path) => match row.file_type() {
-            Ok(kind) if kind.is_dir() => {
-                add_directory(alloc, place, path, leaving, found, left, why)
-            }
-            Ok(_) if !leaving.packs(&path) => Ok(()),
-            Ok(kind) if kind.is_file() => add_file(rt, alloc, place, &path, leaving, found, why),
-            Ok(kind) => {
-                let what = if kind.is_symlink() { LINK } else { NO_FILE };
-                Err(refuse(alloc, why, place, what))
-            }
-            Err(error) => Err(refuse_error(alloc, why, place, &error)),
-        },
+    match folder.join(alloc, row.file_name()) {
+        Ok(path) => {
+            let at = lines.decide(path);
+            add_row(rt, alloc, row, place, at, leaving, found, left, why)
+        }
         Err(Fault::Memory) => Err(PackFault::Memory),
         Err(Fault::Because(_)) => Err(refuse(alloc, why, place, TOO_DEEP)),
+    }
+}
+
+/// Adds what the machine has at this place, if it is packed. What is left out is looked at no further than for whether it is a folder.
+fn add_row<'a, R: Files + AllocGlobal>(
+    rt: &R,
+    alloc: Global,
+    row: &DirEntry<R>,
+    place: &str,
+    at: Decided<'a>,
+    leaving: &Leaving,
+    found: &mut Folder,
+    left: &mut Vec<Decided<'a>>,
+    why: &mut Text,
+) -> Result<(), PackFault>
+    ensures { IfErr result IsBefore }
+{
+    if leaving.leaves_whole(&at) {
+        return Ok(());
+    }
+    match row.file_type() {
+        Ok(kind) if kind.is_dir() => add_directory(alloc, place, at, leaving, found, left, why),
+        Ok(_) if !leaving.packs(&at) => Ok(()),
+        Ok(kind) if kind.is_file() => add_file(rt, alloc, place, at.path(), leaving, found, why),
+        Ok(kind) => {
+            let what = if kind.is_symlink() { LINK } else { NO_FILE };
+            Err(refuse(alloc, why, place, what))
+        }
+        Err(error) => Err(refuse_error(alloc, why, place, &error)),
     }
 }
 
@@ -515,22 +532,22 @@ fn add_file<R: Files + AllocGlobal>(
 }
 
 /// Adds a directory, if it is packed, and lists it among those that are still to be read: what is left out may hold what is kept.
-fn add_directory(
+fn add_directory<'a>(
     alloc: Global,
     place: &str,
-    path: Path,
+    at: Decided<'a>,
     leaving: &Leaving,
     found: &mut Folder,
-    left: &mut Vec<Path>,
+    left: &mut Vec<Decided<'a>>,
     why: &mut Text,
 ) -> Result<(), PackFault>
     ensures { IfErr result IsBefore }
 {
-    if leaving.packs(&path) {
-        if let Err(fault) = found.add_directory(alloc, &path) {
+    if leaving.packs(&at) {
+        if let Err(fault) = found.add_directory(alloc, at.path()) {
             return Err(refuse_entry(alloc, why, place, CHANGED, fault));
         }
     }
-    left.push(path)?;
+    left.push(at)?;
     Ok(())
 }
