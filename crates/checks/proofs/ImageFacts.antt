@@ -17,9 +17,11 @@ use Rattle.expand.specs.declared.reason.Rejection.{Rejection}
 use Rattle.flaws.specs.Looks.{keys_of}
 use Rattle.flaws.specs.declared.flaw.Flaw.{Flaw}
 use Rattle.checks.specs.Images.{names_of, names_in, bytes_names}
-use Rattle.meant.specs.Meant.{meant_by}
+use Rattle.meant.specs.Told.{message_by}
+use Rattle.sentences.specs.declared.message.Message.{Message}
+use Rattle.checks.specs.Mark.{marked_by, spot_by}
 use Rattle.checks.specs.PrivateImages.{unread, needs_images, AreShownAlike}
-use Rattle.checks.specs.Shown.{line_at, shown_with, shown_fault, shown_faults, shown_check}
+use Rattle.checks.specs.Shown.{own_in, word_in, shown_told, shown_fault, shown_faults, shown_check}
 use Rattle.checks.specs.declared.form.Form.{Form}
 use Rattle.checks.specs.declared.images.Unread.{Unread}
 
@@ -78,17 +80,19 @@ no_text_names bytes none = text-or-none bytes (is_utf8 bytes) refl none
 
 -- what is shown of a fault that doesn't need them is the same, whatever the names
 
-meant-same : (target : Option (List ℕ)) (images others lines : List (List ℕ)) (reason : Reason) (number : ℕ) (line : List ℕ) → needs_images reason ≡ false
-    → meant_by target images lines reason number line ≡ meant_by target others lines reason number line
-meant-same target images others lines (Coded R12) number line h = absurd (true≢false h)
-meant-same target images others lines (Coded code) number line h = refl
-meant-same target images others lines (Required text) number line h = refl
+message-same : (target : Option (List ℕ)) (images others lines own : List (List ℕ)) (reason : Reason) (number : ℕ) (word : Option (List ℕ))
+    → needs_images reason ≡ false
+    → message_by target images None lines own reason number word ≡ message_by target others None lines own reason number word
+message-same target images others lines own (Coded R12) number word h = absurd (true≢false h)
+message-same target images others lines own (Coded code) number word h = refl
+message-same target images others lines own (Required text) number word h = refl
 
 shown-same : (form : Form) (target : Option (List ℕ)) (images others lines : List (List ℕ)) (fault : Rejection) → needs_images fault.reason ≡ false
     → shown_fault form target images lines fault ≡ shown_fault form target others lines fault
 shown-same form target images others lines fault h =
-    ap (λ (meant : Option (List ℕ)). shown_with form fault (line_at lines fault.line) meant)
-    (meant-same target images others lines fault.reason fault.line (line_at lines fault.line) h)
+    let own = own_in fault.reason lines fault.line in
+    ap (λ (message : Message). shown_told form fault own message (marked_by fault.reason (spot_by fault.reason own)))
+    (message-same target images others lines own fault.reason fault.line (word_in (spot_by fault.reason own)) h)
 
 neither : (a b : Bool) → a || b ≡ false → (a ≡ false) × (b ≡ false)
 neither true b h = absurd (true≢false h)

@@ -1,5 +1,4 @@
 mod CheckFacts
 mod ImageFacts
-mod LineFacts
 mod ListFacts
 mod TextFacts

@@ -1,23 +1,28 @@
 -- What a person or a program reads of faults, with the lines that they are about (own).
-use Rattle.std.specs.Prelude.{◌-◌, ℕ, Option, Some, None, List, [], codes, slice_get, unwrap_or}
+use Rattle.std.specs.Prelude.{◌++◌, ◌-◌, ◌==◌, ℕ, Option, Some, None, List, [], ◌∷◌, codes, option_map, slice_get, unwrap_or, if◌then◌else◌}
 use Rattle.std.specs.List.{flat_map}
-use Rattle.std.specs.Option.{option_map}
 use Rattle.std.specs.Str.Lossy.{utf8_lossy}
-use Rattle.plain.specs.declared.refusal.Code.TheVariants.{R19, R20}
+use Rattle.plain.specs.declared.refusal.Code.TheVariants.{R01, R02, R03, R19, R20}
 use Rattle.expand.specs.declared.reason.Reason.{Reason}
 use Rattle.expand.specs.declared.reason.Reason.TheVariants.{Coded, Required}
 use Rattle.expand.specs.declared.reason.Rejection.{Rejection}
 use Rattle.lines.specs.Text.{text_lines}
-use Rattle.sentences.specs.Json.{json_line, place_line}
-use Rattle.sentences.specs.Showing.{Pointer, shown, shown_place}
-use Rattle.pointed.specs.Spot.{Spot}
+use Rattle.sentences.specs.Json.{place_line}
+use Rattle.sentences.specs.Message.{code_of}
+use Rattle.sentences.specs.Showing.{headed, noted}
+use Rattle.sentences.specs.Subject.{subject_of}
+use Rattle.sentences.specs.Table.{remedy, sentence}
+use Rattle.sentences.specs.declared.message.Message.{Message}
 use Rattle.flaws.specs.Places.{place_text}
-use Rattle.checks.specs.Mark.{marked, named, spot_by}
-use Rattle.meant.specs.Meant.{meant_by}
-use Rattle.checks.specs.Visible.{visible}
 use Rattle.flaws.specs.declared.flaw.Flaw.{Flaw}
+use Rattle.meant.specs.Own.{own_of}
+use Rattle.meant.specs.Told.{message_by}
+use Rattle.checks.specs.Layout.{shown_json, shown_plain}
+use Rattle.checks.specs.Mark.{PlacedSpot, marked_by, spot_by}
+use Rattle.checks.specs.Visible.{visible}
 use Rattle.checks.specs.declared.form.Form.{Form}
 use Rattle.checks.specs.declared.form.Form.TheVariants.{Plain, Json}
+use Rattle.checks.specs.declared.mark.Marked.{Marked}
 
 -- what a line is in that is refused for this reason: the ignore file, the whole input, or the Dockerfile
 abbrev pub place_of : Reason → List ℕ
@@ -34,39 +39,53 @@ readable_lines text = text_lines (utf8_lossy text)
 abbrev pub line_at : List (List ℕ) → ℕ → List ℕ
 line_at lines number = unwrap_or (slice_get lines (number - 1)) []
 
--- a reason whose text a terminal doesn't obey
-abbrev pub visible_reason : Reason → Reason
-visible_reason (Coded code) = Coded code
-visible_reason (Required text) = Required (visible text)
+-- the lines that a refusal for this reason is about: those of the instruction that begins on the line of this number. One alone is it of an ignore file, of
+-- what isn't UTF-8, and of a directive
+abbrev pub own_by : Reason → List (List ℕ) → ℕ → List (List ℕ)
+own_by (Coded R01) lines number = line_at lines number ∷ []
+own_by (Coded R02) lines number = line_at lines number ∷ []
+own_by (Coded R03) lines number = line_at lines number ∷ []
+own_by (Coded R19) lines number = line_at lines number ∷ []
+own_by (Coded code) lines number = own_of lines number
+own_by (Required text) lines number = own_of lines number
 
--- what is shown to a person of a fault that is about this line, which is shown as a terminal may have it, with the name that may have been meant, as it is
--- shown, and the mark under the word that it is about
-abbrev pub shown_seen : Rejection → List ℕ → Option (List ℕ) → Option Pointer → List ℕ
-shown_seen refusal line meant marked =
-    shown (place_of refusal.reason) (record { reason = visible_reason refusal.reason; line = refusal.line }) (visible line) meant marked
+-- the same; none if it is about no line, having number 0
+abbrev pub own_in : Reason → List (List ℕ) → ℕ → List (List ℕ)
+own_in reason lines number = if number == 0 then [] else own_by reason lines number
 
--- what is shown of a fault that is about this line, with the name that may have been meant and the word that it is about: a person gets all texts as a
--- terminal may have them, with a mark under the word, and a program as they stand
-abbrev pub shown_word : Form → Rejection → List ℕ → Option (List ℕ) → Option Spot → List ℕ
-shown_word Plain refusal line meant word = shown_seen refusal line (option_map visible meant) (option_map marked word)
-shown_word Json refusal line meant word = json_line (place_of refusal.reason) refusal line meant (option_map named word)
+-- the word of what is found
+abbrev pub word_in : Option PlacedSpot → Option (List ℕ)
+word_in found = option_map (λ it. it.1.word) found
 
--- the same, where the line tells which of its words the fault is about
-abbrev pub shown_with : Form → Rejection → List ℕ → Option (List ℕ) → List ℕ
-shown_with form refusal line meant = shown_word form refusal line meant (spot_by refusal.reason line)
+-- what is shown of a fault that is about these lines, with what is said of it and the word that is marked: a person gets all texts as a terminal may have
+-- them, and a program as they stand
+abbrev pub shown_told : Form → Rejection → List (List ℕ) → Message → Option Marked → List ℕ
+shown_told Plain fault own message marked = shown_plain (place_of fault.reason) (code_of fault.reason) fault.line own message marked
+shown_told Json fault own message marked = shown_json (place_of fault.reason) (code_of fault.reason) fault.line own message marked
+
+-- what is said of a fault of a build of this target with these images, in a file of these lines, of which these are its own
+abbrev pub message_in : Option (List ℕ) → List (List ℕ) → List (List ℕ) → List (List ℕ) → Rejection → Message
+message_in target images lines own fault = message_by target images None lines own fault.reason fault.line (word_in (spot_by fault.reason own))
+
+abbrev pub shown_own : Form → Option (List ℕ) → List (List ℕ) → List (List ℕ) → List (List ℕ) → Rejection → List ℕ
+shown_own form target images lines own fault =
+    shown_told form fault own (message_in target images lines own fault) (marked_by fault.reason (spot_by fault.reason own))
 
 -- what is shown of a fault of a build of this target with these images, in a text with these lines
 abbrev pub shown_fault : Form → Option (List ℕ) → List (List ℕ) → List (List ℕ) → Rejection → List ℕ
-shown_fault form target images lines refusal =
-    shown_with form refusal (line_at lines refusal.line) (meant_by target images lines refusal.reason refusal.line (line_at lines refusal.line))
+shown_fault form target images lines fault = shown_own form target images lines (own_in fault.reason lines fault.line) fault
 
 -- what is shown of faults, one after another
 abbrev pub shown_faults : Form → Option (List ℕ) → List (List ℕ) → List (List ℕ) → List Rejection → List ℕ
 shown_faults form target images lines faults = flat_map (shown_fault form target images lines) faults
 
--- what is shown of bytes that are no bundle, being wrong in this place, which is written as `flaws` writes it
+-- what is shown to a person of bytes that are no bundle, being wrong in this place
+abbrev pub shown_place : List ℕ → List ℕ
+shown_place place = headed (codes "bundle") (codes "R20") (sentence R20 (subject_of []) ++ (codes ": " ++ place)) ++ noted [] (remedy R20 (subject_of []))
+
+-- the same in a form, where the place is written as `flaws` writes it
 abbrev pub shown_flaw : Form → List ℕ → List ℕ
-shown_flaw Plain place = shown_place (codes "bundle") R20 (visible place)
+shown_flaw Plain place = shown_place (visible place)
 shown_flaw Json place = place_line (codes "bundle") R20 place
 
 -- what is shown of a bundle's faults: bytes that are no bundle are shown with where they are wrong

@@ -9,9 +9,8 @@
 // fault is shown in one walk through the text. Where there are several, the lines are listed first, so each is found at once. `check` does both,
 // and shows bytes that are no bundle with where they are wrong, which `flaws` finds.
 //
-// Of an instruction that isn't known, of a stage or an image that isn't there, and of a target that is no stage, the name is shown that may have been
-// meant, which `meant` finds.
-// If the line tells which of its words a fault is about, which `pointed` finds, the word's column is shown, and for a person a mark under it.
+// What is said of a fault, `meant` finds. If the lines of its instruction tell which of their words it is about, which `pointed` finds, the line of that word
+// is shown, for a person with a mark under it, and else all lines of the instruction.
 //
 // `shown_failure` shows an instruction that a build failed at in the same form. Of a COPY that misses a source `shown_missing` names it, and
 // `shown_left_out` the line of the ignore file that leaves it out.
@@ -34,6 +33,7 @@ mod failing;
 mod form;
 mod images;
 pub mod laws;
+mod layout;
 mod mark;
 mod showing;
 mod visible;

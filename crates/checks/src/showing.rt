@@ -1,25 +1,23 @@
-ghost use Rattle.std.specs.Prelude.{◌≡◌, ◌-◌, false, map, option_map, IfOk};
+ghost use Rattle.std.specs.Prelude.{◌≡◌, ◌++◌, [], ◌∷◌, map, option_map, IfOk};
 ghost use Rattle.std.specs.Option.{option_copied};
 ghost use Rattle.std.specs.String.{string_bytes};
 ghost use Rattle.lines.specs.Text.{without_byte_order_mark, text_lines};
-ghost use Rattle.sentences.specs.Showing.{pointer_of, shown};
-ghost use Rattle.meant.specs.Meant.{meant_by, needs_lines};
-ghost use Rattle.pointed.specs.Spot.{spot};
-ghost use Rattle.checks.specs.Mark.{marked, named};
-ghost use Rattle.checks.specs.Shown.{place_of, readable_lines, line_at, visible_reason, shown_seen, shown_word, shown_with, shown_fault, shown_faults, shown_flaw, shown_check};
+ghost use Rattle.sentences.specs.Table.{remedy, sentence};
+ghost use Rattle.checks.specs.Mark.{placed_spot};
+ghost use Rattle.checks.specs.Shown.{place_of, readable_lines, line_at, own_by, own_in, word_in, shown_place, shown_told, shown_fault, shown_faults, shown_flaw, shown_check};
 ghost use Rattle.checks.specs.Visible.{visible};
-ghost use Rattle.checks.specs.declared.form.Form.TheVariants.{Plain, Json};
 ghost use Rattle.flaws.specs.Places.{place_text};
 
 use crate::Form;
-use crate::mark::{mark_under, spot_by};
+use crate::layout::{shown_json, shown_plain};
+use crate::mark::{Marked, marked_by, spot_by};
 use crate::visible::visible;
 use expand::{Reason, Rejection};
 use flaws::{Flaw, place_text};
-use meant::{meant_by, needs_lines};
+use meant::{message_by, own_of};
 use plain::{Code, Memory, Text};
 use pointed::Pointed;
-use sentences::{json_line, place_line, shown, shown_place};
+use sentences::{Message, Subject, code_of, headed, noted, place_line, remedy, sentence};
 use std::alloc::{AllocError, Global};
 
 /// What is shown of faults of a build of this target with images of these names, in their order and in this form, whose lines are counted in this text: a
@@ -47,7 +45,20 @@ pub fn shown_faults(
     Ok(Text::from_string(shown))
 }
 
-/// What is shown of bytes that are no bundle, with where they are wrong. To a person a control character of a key is shown by its number.
+/// What is shown to a person of bytes that are no bundle, with this place.
+fn shown_place(alloc: Global, place: &str) -> Result<String, Memory>
+    ensures { IfOk result (λ text. string_bytes text ≡ shown_place place.now) }
+{
+    let subject = Subject::of_line("");
+    let wrong = format!(in alloc; "{}: {place}", sentence(Code::R20, subject))?;
+    let head = headed(alloc, "bundle", "R20", wrong.as_str())?;
+    let helps = noted(alloc, "", remedy(Code::R20, subject))?;
+    let mut text = head;
+    text.push_str(helps.as_str())?;
+    Ok(text)
+}
+
+/// What is shown of bytes that are no bundle, with where they are wrong. To a person a character of a key that can't be seen is shown by its number.
 fn shown_flaw(alloc: Global, flaw: &Flaw, form: Form) -> Result<String, Memory>
     ensures { IfOk result (λ text. string_bytes text ≡ shown_flaw form (place_text flaw.now)) }
 {
@@ -55,7 +66,7 @@ fn shown_flaw(alloc: Global, flaw: &Flaw, form: Form) -> Result<String, Memory>
     match form {
         Form::Plain => {
             let place = visible(alloc, place.as_str())?;
-            shown_place(alloc, "bundle", Code::R20, place.as_str())
+            shown_place(alloc, place.as_str())
         }
         Form::Json => place_line(alloc, "bundle", Code::R20, place.as_str()),
     }
@@ -79,53 +90,31 @@ pub(crate) fn shown_check(
     }
 }
 
-/// What `shown_faults` shows of a text that is UTF-8. The lines are listed only if they are needed: one is found without memory for each line.
-fn shown_in<'a>(
+/// What `shown_faults` shows of a text that is UTF-8.
+fn shown_in(
     alloc: Global,
     faults: &[Rejection],
-    target: Option<&Text>,
-    images: &'a [Text],
-    text: &'a str,
-    form: Form,
-) -> Result<String, Memory>
-    ensures { IfOk result (λ shown. string_bytes shown ≡ shown_faults form (option_copied target.entry) images.now (text_lines text.now) faults.now) }
-{
-    match faults {
-        [] => Ok(String::new(alloc)),
-        [fault] if !needs_lines(&fault.reason) => shown_alone(
-            alloc, fault, target, images, text, form,
-        ),
-        [_, ..] => {
-            let lines = lines_of(alloc, text)?;
-            shown_each(alloc, faults, target, images, &lines, form)
-        }
-    }
-}
-
-/// What is shown of the one fault of a text.
-fn shown_alone(
-    alloc: Global,
-    fault: &Rejection,
     target: Option<&Text>,
     images: &[Text],
     text: &str,
     form: Form,
 ) -> Result<String, Memory>
-    requires { needs_lines fault.now.reason ≡ false }
-    ensures { IfOk result (λ shown. string_bytes shown ≡ shown_fault form (option_copied target.entry) images.now (text_lines text.now) fault.now) }
+    ensures { IfOk result (λ shown. string_bytes shown ≡ shown_faults form (option_copied target.entry) images.now (text_lines text.now) faults.now) }
 {
-    let line = found_line(text, fault.line);
-    let meant = meant_by(alloc, target, images, &[], &fault.reason, fault.line, line)?;
-    shown_with(alloc, fault, line, meant, form)
+    if faults.is_empty() {
+        return Ok(String::new(alloc));
+    }
+    let lines = lines_of(alloc, text)?;
+    shown_each(alloc, faults, target, images, lines.as_slice(), form)
 }
 
 /// What is shown of faults, one after another, their lines being among these.
-fn shown_each<'a>(
+fn shown_each(
     alloc: Global,
     faults: &[Rejection],
     target: Option<&Text>,
-    images: &'a [Text],
-    lines: &[&'a str],
+    images: &[Text],
+    lines: &[&str],
     form: Form,
 ) -> Result<String, Memory>
     ensures { IfOk result (λ shown. string_bytes shown ≡ shown_faults form (option_copied target.entry) images.now (map (λ line. line.now) lines.now) faults.now) }
@@ -138,144 +127,110 @@ fn shown_each<'a>(
     Ok(text)
 }
 
+/// The line of this number alone.
+fn one_line<'a>(alloc: Global, lines: &[&'a str], number: u32) -> Result<Vec<&'a str>, Memory>
+    ensures { IfOk result (λ own. map (λ line. line.now) own.items ≡ line_at (map (λ line. line.now) lines.now) number ∷ []) }
+{
+    let mut own = Vec::new(alloc);
+    own.push(listed_line(lines, number))?;
+    Ok(own)
+}
+
+/// The lines that a refusal for this reason is about: those of the instruction that begins on the line of this number. One alone is it of an ignore file, of
+/// what isn't UTF-8, and of a directive.
+fn own_by<'a>(
+    alloc: Global,
+    reason: &Reason,
+    lines: &[&'a str],
+    number: u32,
+) -> Result<Vec<&'a str>, Memory>
+    ensures { IfOk result (λ own. map (λ line. line.now) own.items ≡ own_by reason.now (map (λ line. line.now) lines.now) number) }
+{
+    match reason {
+        Reason::Coded(Code::R01)
+        | Reason::Coded(Code::R02)
+        | Reason::Coded(Code::R03)
+        | Reason::Coded(Code::R19) => one_line(alloc, lines, number),
+        _ => own_of(alloc, lines, number),
+    }
+}
+
+/// The same; none if the refusal is about no line, having number 0.
+fn own_in<'a>(
+    alloc: Global,
+    reason: &Reason,
+    lines: &[&'a str],
+    number: u32,
+) -> Result<Vec<&'a str>, Memory>
+    ensures { IfOk result (λ own. map (λ line. line.now) own.items ≡ own_in reason.now (map (λ line. line.now) lines.now) number) }
+{
+    if number == 0 {
+        return Ok(Vec::new(alloc));
+    }
+    own_by(alloc, reason, lines, number)
+}
+
+/// The word of what is found.
+fn word_in<'a>(found: &Option<(usize, Pointed<'a>)>) -> Option<&'a str>
+    ensures { option_map (λ word. word.now) result ≡ word_in (option_map placed_spot found.now) }
+{
+    match found {
+        Some((_, spot)) => Some(spot.word),
+        None => None,
+    }
+}
+
 /// What is shown of a fault of a file with these lines.
-fn shown_fault<'a>(
+fn shown_fault(
     alloc: Global,
     fault: &Rejection,
     target: Option<&Text>,
-    images: &'a [Text],
-    lines: &[&'a str],
+    images: &[Text],
+    lines: &[&str],
     form: Form,
 ) -> Result<String, Memory>
     ensures { IfOk result (λ text. string_bytes text ≡ shown_fault form (option_copied target.entry) images.now (map (λ line. line.now) lines.now) fault.now) }
 {
-    let line = listed_line(lines, fault.line);
-    let meant = meant_by(
+    let own = own_in(alloc, &fault.reason, lines, fault.line)?;
+    let found = spot_by(alloc, &fault.reason, own.as_slice())?;
+    let message = message_by(
         alloc,
         target,
         images,
+        None,
         lines,
+        own.as_slice(),
         &fault.reason,
         fault.line,
-        line,
+        word_in(&found),
     )?;
-    shown_with(alloc, fault, line, meant, form)
-}
-
-/// What is shown of a fault that is about this line, with the name that may have been meant, and the word that it is about.
-fn shown_with(
-    alloc: Global,
-    fault: &Rejection,
-    line: &str,
-    meant: Option<&str>,
-    form: Form,
-) -> Result<String, Memory>
-    ensures { IfOk result (λ text. string_bytes text ≡ shown_with form fault.now line.now (option_copied meant.entry)) }
-{
-    let word = spot_by(alloc, &fault.reason, line)?;
-    match form {
-        Form::Plain => shown_plain(alloc, fault, line, meant, word),
-        Form::Json => shown_json(alloc, fault, line, meant, word),
-    }
-}
-
-/// What a program gets of a fault that is about this line.
-fn shown_json(
-    alloc: Global,
-    fault: &Rejection,
-    line: &str,
-    meant: Option<&str>,
-    word: Option<Pointed<'_>>,
-) -> Result<String, Memory>
-    ensures { IfOk result (λ text. string_bytes text ≡ shown_word Json fault.now line.now (option_copied meant.entry) (option_map spot word.entry)) }
-{
-    let named = match word {
-        Some(spot) => Some((spot.column, spot.word)),
-        None => None,
-    };
-    json_line(alloc, place_of(&fault.reason), fault, line, meant, named)
-}
-
-/// What is shown to a person of a fault that is about this line.
-fn shown_plain(
-    alloc: Global,
-    fault: &Rejection,
-    line: &str,
-    meant: Option<&str>,
-    word: Option<Pointed<'_>>,
-) -> Result<String, Memory>
-    ensures { IfOk result (λ text. string_bytes text ≡ shown_word Plain fault.now line.now (option_copied meant.entry) (option_map spot word.entry)) }
-{
-    match meant {
-        Some(name) => {
-            let name = visible(alloc, name)?;
-            shown_marked(alloc, fault, line, Some(name.as_str()), word)
-        }
-        None => shown_marked(alloc, fault, line, None, word),
-    }
-}
-
-/// The same, with the name that may have been meant as it is shown.
-fn shown_marked(
-    alloc: Global,
-    fault: &Rejection,
-    line: &str,
-    meant: Option<&str>,
-    word: Option<Pointed<'_>>,
-) -> Result<String, Memory>
-    ensures { IfOk result (λ text. string_bytes text ≡ shown_seen fault.now line.now (option_copied meant.entry) (option_map marked (option_map spot word.entry))) }
-{
-    match word {
-        Some(spot) => {
-            let mark = mark_under(alloc, spot.before, spot.word)?;
-            shown_seen(
-                alloc,
-                fault,
-                line,
-                meant,
-                Some((spot.column, mark.as_str())),
-            )
-        }
-        None => shown_seen(alloc, fault, line, meant, None),
-    }
-}
-
-/// The same, with the mark too.
-fn shown_seen(
-    alloc: Global,
-    fault: &Rejection,
-    line: &str,
-    meant: Option<&str>,
-    marked: Option<(usize, &str)>,
-) -> Result<String, Memory>
-    ensures { IfOk result (λ text. string_bytes text ≡ shown_seen fault.now line.now (option_copied meant.entry) (pointer_of marked.entry)) }
-{
-    let line = visible(alloc, line)?;
-    let reason = visible_reason(alloc, &fault.reason)?;
-    let seen = Rejection {
-        reason,
-        line: fault.line,
-    };
-    shown(
+    let marked = marked_by(alloc, &fault.reason, found)?;
+    shown_told(
         alloc,
-        place_of(&fault.reason),
-        &seen,
-        line.as_str(),
-        meant,
-        marked,
+        fault,
+        own.as_slice(),
+        &message,
+        marked.as_ref(),
+        form,
     )
 }
 
-/// A reason with its text as it is shown.
-fn visible_reason(alloc: Global, reason: &Reason) -> Result<Reason, Memory>
-    ensures { IfOk result (λ seen. seen ≡ visible_reason reason.now) }
+/// What is shown of a fault that is about these lines, with what is said of it and the word that is marked.
+fn shown_told(
+    alloc: Global,
+    fault: &Rejection,
+    own: &[&str],
+    message: &Message,
+    marked: Option<&Marked>,
+    form: Form,
+) -> Result<String, Memory>
+    ensures { IfOk result (λ text. string_bytes text ≡ shown_told form fault.now (map (λ line. line.now) own.now) message.now (option_copied marked.entry)) }
 {
-    match reason {
-        Reason::Coded(code) => Ok(Reason::Coded(*code)),
-        Reason::Required(text) => {
-            let seen = visible(alloc, text.as_str())?;
-            Ok(Reason::Required(Text::from_string(seen)))
-        }
+    let code = code_of(alloc, &fault.reason)?;
+    let (file, code) = (place_of(&fault.reason), code.as_str());
+    match form {
+        Form::Plain => shown_plain(alloc, file, code, fault.line, own, message, marked),
+        Form::Json => shown_json(alloc, file, code, fault.line, own, message, marked),
     }
 }
 
@@ -301,7 +256,7 @@ fn without_byte_order_mark(text: &str) -> &str
 }
 
 /// The lines of a text.
-fn lines_of(alloc: Global, text: &str) -> Result<Vec<&str>, AllocError>
+pub(crate) fn lines_of(alloc: Global, text: &str) -> Result<Vec<&str>, AllocError>
     ensures { IfOk result (λ lines. map (λ line. line.now) lines.items ≡ text_lines text.now) }
 {
     without_byte_order_mark(text).lines().collect(alloc)
@@ -315,16 +270,6 @@ fn index_of(number: u32) -> usize
 }
 
 /// The line of this number, the empty one where there is none.
-pub(crate) fn found_line(text: &str, number: u32) -> &str
-    ensures { result.now ≡ line_at (text_lines text.now) number }
-{
-    match without_byte_order_mark(text).lines().nth(index_of(number)) {
-        Some(line) => line,
-        None => "",
-    }
-}
-
-/// The same, where the lines are listed.
 fn listed_line<'a>(lines: &[&'a str], number: u32) -> &'a str
     ensures { result.now ≡ line_at (map (λ line. line.now) lines.now) number }
 {

@@ -1,17 +1,11 @@
 ghost use Rattle.std.specs.Prelude.{◌≡◌, ◌<◌, ◌++◌, false, IfOk, OnOk};
 ghost use Rattle.std.specs.Fmt.{digit_glyph};
 ghost use Rattle.std.specs.String.{string_bytes};
-ghost use Rattle.checks.specs.Visible.{is_obeyed, escaped, visible_char, visible};
+ghost use Rattle.checks.specs.Visible.{two_digits, escaped, visible_char, visible};
 
 use plain::Memory;
+use sentences::is_unseen;
 use std::alloc::{AllocError, Global};
-
-/// Whether a terminal may obey a character.
-fn is_obeyed(character: char) -> bool
-    ensures { result ≡ is_obeyed character }
-{
-    character.is_control() && character != '\t'
-}
 
 /// A hexadecimal digit.
 fn hex_digit(digit: u8) -> char
@@ -25,27 +19,41 @@ fn hex_digit(digit: u8) -> char
     }
 }
 
-/// Adds the number of a character, with two hexadecimal digits.
-fn push_escaped(shown: &mut String, number: u8) -> Result<(), AllocError>
+/// Adds a byte as two hexadecimal digits.
+fn push_digits(shown: &mut String, byte: u8) -> Result<(), AllocError>
+    ensures { OnOk result (string_bytes shown.new ≡ string_bytes shown.old ++ two_digits byte) }
+{
+    shown.push(hex_digit(byte / 16))?;
+    shown.push(hex_digit(byte % 16))
+}
+
+/// Adds the number of a character, as `\x1b`, or as `\u200b` if it doesn't fit in a byte.
+#[tactic(auto, unfolding(crate::specs::Visible::escaped))]
+fn push_escaped(shown: &mut String, number: u16) -> Result<(), AllocError>
     ensures { OnOk result (string_bytes shown.new ≡ string_bytes shown.old ++ escaped number) }
 {
-    shown.push_str("\\x")?;
-    shown.push(hex_digit(number / 16))?;
-    shown.push(hex_digit(number % 16))
+    if number < 256 {
+        shown.push_str("\\x")?;
+        push_digits(shown, (number % 256) as u8)
+    } else {
+        shown.push_str("\\u")?;
+        push_digits(shown, (number / 256) as u8)?;
+        push_digits(shown, (number % 256) as u8)
+    }
 }
 
 /// Adds what is shown of a character.
 fn push_visible(shown: &mut String, character: char) -> Result<(), AllocError>
     ensures { OnOk result (string_bytes shown.new ≡ string_bytes shown.old ++ visible_char character) }
 {
-    if is_obeyed(character) {
-        push_escaped(shown, character as u8)
+    if is_unseen(character) && (character as u32) < 65536 {
+        push_escaped(shown, (character as u32) as u16)
     } else {
         shown.push(character)
     }
 }
 
-/// A line as it is shown: each character that a terminal may obey by its number.
+/// A line as it is shown: each character that can't be seen, or that a terminal may obey, by its number.
 pub(crate) fn visible(alloc: Global, line: &str) -> Result<String, Memory>
     ensures { IfOk result (λ shown. string_bytes shown ≡ visible line.now) }
 {

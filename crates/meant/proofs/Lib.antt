@@ -1,1 +1,1 @@
-mod LineFacts
+pub mod LineFacts

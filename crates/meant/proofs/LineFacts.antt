@@ -1,6 +1,6 @@
 -- The lines up to one of a number, and those before the last one that begins a stage.
-use Rattle.std.proofs.Common.{◌≡◌, ◌<◌, ◌≤◌, ◌||◌, ℕ, zero, suc, Bool, true, false, Bor, List, [], ◌∷◌, ap, arith, drop, get_or, length, map, refl, sym, take}
-use Rattle.std.proofs.lemmas.List.{length-map, take-map, take_all}
+use Rattle.std.proofs.Common.{◌≡◌, ◌<◌, ◌≤◌, ◌-◌, ◌∙◌, ◌||◌, ℕ, zero, suc, Bool, true, false, Bor, List, [], ◌∷◌, ap, arith, drop, get_or, length, map, refl, sym, take}
+use Rattle.std.proofs.lemmas.List.{drop-map, drop_all, length-drop, length-map, take-map, take_all}
 use Rattle.std.proofs.lemmas.List.Folds.{list_any_at}
 use Rattle.std.specs.List.{list_any}
 use Rattle.meant.specs.Begun.{begins_stage, before_last}
@@ -14,6 +14,24 @@ pub all_lines : (number : ℕ) (lines : List (Bor (List ℕ))) → length lines 
 all_lines number lines short =
     let count : length (map (λ (line : Bor (List ℕ)). line.now) lines) ≡ length lines = length-map lines (λ (line : Bor (List ℕ)). line.now) in
     sym (take_all number (map (λ (line : Bor (List ℕ)). line.now) lines) (omega arith))
+
+-- the lines after so many: those that are there
+pub later_lines : (count : ℕ) (lines : List (Bor (List ℕ))) → map (λ (line : Bor (List ℕ)). line.now) (drop count lines) ≡ drop count (map (λ (line : Bor (List ℕ)). line.now) lines)
+later_lines count lines = sym (drop-map (λ (line : Bor (List ℕ)). line.now) count lines)
+
+-- the same, as they are cut off
+pub lines_cut : (above number : ℕ) (lines : List (Bor (List ℕ))) → above ≡ number - 1
+    → map (λ (line : Bor (List ℕ)). line.now) (take (length lines - above) (drop above lines)) ≡ drop (number - 1) (map (λ (line : Bor (List ℕ)). line.now) lines)
+lines_cut above number lines e =
+    let count : length (drop above lines) ≡ length lines - above = length-drop above lines in
+    ap (map (λ (line : Bor (List ℕ)). line.now)) (take_all (length lines - above) (drop above lines) (omega arith))
+    ∙ (later_lines above lines ∙ ap (λ (n : ℕ). drop n (map (λ (line : Bor (List ℕ)). line.now) lines)) e)
+
+-- and none if there are no more
+pub no_lines : (count : ℕ) (lines : List (Bor (List ℕ))) → length lines ≤ count → [] ≡ drop count (map (λ (line : Bor (List ℕ)). line.now) lines)
+no_lines count lines short =
+    let same : length (map (λ (line : Bor (List ℕ)). line.now) lines) ≡ length lines = length-map lines (λ (line : Bor (List ℕ)). line.now) in
+    sym (drop_all count (map (λ (line : Bor (List ℕ)). line.now) lines) (omega arith))
 
 -- the line at a place is the last one that begins a stage
 pub last_begins : (place : ℕ) (lines : List (List ℕ)) → place < length lines → begins_stage (get_or lines place []) ≡ true → list_any begins_stage (drop (suc place) lines) ≡ false

@@ -1,4 +1,11 @@
 pub mod Begun
 pub mod Escapes
-pub mod Meant
+pub mod FirstWord
+pub mod Flags
+pub mod MountTexts
+pub mod Mounts
+pub mod Named
+pub mod Own
+pub mod Said
 pub mod Sources
+pub mod Told

@@ -13,7 +13,7 @@ use words::pair;
 
 /// The value that a text gives to a name: `x` of `name=x`.
 #[tactic(auto, unfolding(crate::specs::Sources::value_of))]
-fn value_of<'a>(name: &str, text: &'a str) -> Option<&'a str>
+pub(crate) fn value_of<'a>(name: &str, text: &'a str) -> Option<&'a str>
     ensures { option_map (λ value. value.now) result ≡ value_of name.now text.now }
 {
     match pair(text) {
@@ -35,7 +35,7 @@ fn first_source<'a>(parts: &[&'a str]) -> Option<&'a str>
 }
 
 /// The parts of a mount, between its commas.
-fn parts(alloc: Global, mount: &str) -> Result<Vec<&str>, AllocError>
+pub(crate) fn parts(alloc: Global, mount: &str) -> Result<Vec<&str>, AllocError>
     ensures { IfOk result (λ found. map (λ part. part.now) found.items ≡ slice_split (λ c. c == 44) mount.now) }
 {
     mount.split(',').collect(alloc)

@@ -1,10 +1,10 @@
 -- Which word of a line a fault is about, as far as the line alone tells: it is the first one of its instruction (own).
-use Rattle.std.specs.Prelude.{◌||◌, ℕ, Bool, true, false, List, Option, option_and_then, if◌then◌else◌}
+use Rattle.std.specs.Prelude.{◌||◌, ℕ, Bool, true, false, not, List, Option, None, bytes_eq, codes, option_and_then, if◌then◌else◌}
 use Rattle.plain.specs.declared.refusal.Code.{Code}
-use Rattle.plain.specs.declared.refusal.Code.TheVariants.{R04, R07}
+use Rattle.plain.specs.declared.refusal.Code.TheVariants.{R04, R07, R17}
 use Rattle.ascii.specs.Blanks.{after_blanks}
-use Rattle.ascii.specs.Pieces.{behind_piece, pieces}
-use Rattle.words.specs.Flag.{behind_pieces}
+use Rattle.ascii.specs.Pieces.{behind_piece, first_piece, pieces}
+use Rattle.words.specs.Flag.{behind_flags, behind_pieces}
 use Rattle.sentences.specs.Subject.{subject_of}
 use Rattle.sentences.specs.declared.subject.Subject.{Subject}
 use Rattle.sentences.specs.declared.subject.Subject.TheVariants.{Run, Copy}
@@ -36,3 +36,17 @@ spot_after line number = spot_at line (behind_pieces number (behind_piece line))
 unfoldable pub pointed : Code → List ℕ → Option Spot
 pointed R04 line = spot_at line (after_blanks line)
 pointed code line = option_and_then (spot_after line) (number_of code (subject_of line) (behind_piece line))
+
+-- a text is flags alone, after which its instruction goes on in the next line: what follows them is what may be the escape character
+abbrev pub are_flags_alone : List ℕ → Bool
+are_flags_alone text = bytes_eq (first_piece (behind_flags text)) (codes "\\") || bytes_eq (first_piece (behind_flags text)) (codes "`")
+
+-- a flag tells by itself that a code is about it, whatever stands on other lines: by R12 another one may be it
+abbrev pub tells_alone : Code → Bool
+tells_alone R07 = true
+tells_alone R17 = true
+tells_alone code = false
+
+-- the flag of a later line of an instruction that a refusal by this code is about, where all lines before it have the instruction's name and flags alone
+abbrev pub pointed_later : Code → Subject → List ℕ → Option Spot
+pointed_later code subject line = if not (tells_alone code) then None else option_and_then (λ number. spot_at line (behind_pieces number line)) (flag_number code subject line)

@@ -20,5 +20,5 @@ mod pointing;
 mod spot;
 mod word;
 
-pub use pointing::pointed;
+pub use pointing::{are_flags_alone, pointed, pointed_later};
 pub use spot::Pointed;

@@ -1,6 +1,7 @@
 ghost use Rattle.std.specs.Prelude.{◌≡◌, option_map, option_and_then, IfOk};
 ghost use Rattle.ascii.specs.Blanks.{after_blanks};
-ghost use Rattle.pointed.specs.Pointing.{is_of_flag, has_flags, number_of, spot_after, pointed};
+ghost use Rattle.words.specs.Flag.{behind_pieces};
+ghost use Rattle.pointed.specs.Pointing.{is_of_flag, has_flags, number_of, spot_after, pointed, are_flags_alone, tells_alone, pointed_later};
 ghost use Rattle.pointed.specs.Spot.{spot, spot_at};
 
 use crate::flag::flag_number;
@@ -10,6 +11,7 @@ use ascii::{after_blanks, first_piece, split_at_blanks};
 use plain::{Code, Memory};
 use sentences::Subject;
 use std::alloc::Global;
+use words::flags;
 
 /// Whether a code is about a flag.
 fn is_of_flag(code: Code) -> bool
@@ -92,5 +94,50 @@ pub fn pointed<'a>(alloc: Global, code: Code, line: &'a str) -> Result<Option<Po
             let number = number_of(alloc, code, Subject::of_line(line), text)?;
             Ok(spot_if(line, number))
         }
+    }
+}
+
+/// Whether a text is flags alone, after which its instruction goes on in the next line.
+pub fn are_flags_alone(alloc: Global, text: &str) -> Result<bool, Memory>
+    ensures { IfOk result (λ are. are ≡ are_flags_alone text.now) }
+{
+    let (flags, rest) = flags(alloc, text)?;
+    drop(flags);
+    let (word, _) = first_piece(rest);
+    Ok(word == "\\" || word == "`")
+}
+
+/// The word of this number among those of a line.
+fn later_spot(line: &str, number: usize) -> Option<Pointed<'_>>
+    ensures { option_map spot result ≡ spot_at line.now (behind_pieces number line.now) }
+{
+    spot_at(line, after_pieces(line, number))
+}
+
+/// Whether a flag tells by itself that a code is about it, whatever stands on other lines.
+fn tells_alone(code: Code) -> bool
+    ensures { result ≡ tells_alone code }
+{
+    match code {
+        Code::R07 | Code::R17 => true,
+        _ => false,
+    }
+}
+
+/// The flag of a later line of an instruction that a refusal by this code is about, where all lines before it have the instruction's name and flags alone.
+pub fn pointed_later<'a>(
+    alloc: Global,
+    code: Code,
+    subject: Subject,
+    line: &'a str,
+) -> Result<Option<Pointed<'a>>, Memory>
+    ensures { IfOk result (λ found. option_map spot found ≡ pointed_later code subject line.now) }
+{
+    if !tells_alone(code) {
+        return Ok(None);
+    }
+    match flag_number(alloc, code, subject, line)? {
+        Some(number) => Ok(later_spot(line, number)),
+        None => Ok(None),
     }
 }

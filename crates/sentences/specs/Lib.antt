@@ -1,5 +1,7 @@
 pub mod Failing
 pub mod Json
+pub mod Message
 pub mod Showing
 pub mod Subject
 pub mod Table
+pub mod Unseen

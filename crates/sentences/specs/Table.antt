@@ -141,7 +141,7 @@ remedy R08 subject = heredoc_remedy subject
 remedy R09 subject = codes "close the quote; write ${name}, ${name:-word}, ${name:+word} or ${name:?word}, and \\$ for the character $"
 remedy R10 subject = name_remedy subject
 remedy R11 subject = codes "rename one of the two"
-remedy R12 subject = codes "bring the image with the bundle, or name a stage above"
+remedy R12 subject = codes "pack the image by --image NAME=FILE, or name a stage above"
 remedy R13 subject = codes "name a stage of the file, or count from 0"
 remedy R14 subject = codes "write / at the end of the destination"
 remedy R15 subject = codes "close each [, and write \\[ where the character [ is meant"

@@ -4,28 +4,31 @@
 // It knows the codes, and of a line the name of its instruction, since some codes have several causes. It reads no instruction: a line
 // that is refused may spell none.
 //
-// The central definitions are the table in specs/Table.antt, which has one sentence and one remedy for each code and instruction, `shown` in
-// specs/Showing.antt, `json_line` in specs/Json.antt, and `shown_cause` in specs/Failing.antt, with a table of causes. Of a COPY that misses a source
-// `shown_missing` names it, and `shown_left_out` the line of the ignore file that leaves it out.
+// The central definitions are the table in specs/Table.antt, which has one sentence and one remedy for each code and instruction, `message_of` in
+// specs/Message.antt, `cause_message` in specs/Failing.antt, with a table of causes, the forms in specs/Showing.antt, and `json_line` in specs/Json.antt.
+// Of a COPY that misses a source `missing_message` names it, and `left_out_message` the line of the ignore file that leaves it out.
 //
 // ```
-// let refusal = Rejection::of(Refusal { code: Code::R16, line: 9 });
-// shown(alloc, "Dockerfile", &refusal, "COPY --chown=node:node a b", None, Some((6, "     ^^^^^^^^^^^^^^^^^")))?
-// // Dockerfile:9:6: R16: the owner and the mode have to be numbers
-// //     9 | COPY --chown=node:node a b
+// message_of(alloc, &Reason::Coded(Code::R16), Subject::Copy)?
+// // wrong: the owner and the mode have to be numbers
+// // helps: write --chown=1000:1000 and --chmod=644 (names would need the image's /etc/passwd)
+// noted(alloc, "9", "     ^^^^^^^^^^^^^^^^^")?
 // //       |      ^^^^^^^^^^^^^^^^^
-// //       | write --chown=1000:1000 and --chmod=644 (names would need the image's /etc/passwd)
 // ```
 #![tactic(auto)]
 
 mod failing;
 mod json;
+mod message;
 mod showing;
 mod subject;
 mod table;
+mod unseen;
 
-pub use failing::{shown_cause, shown_left_out, shown_missing};
+pub use failing::{cause_message, left_out_message, missing_message};
 pub use json::{json_line, place_line};
-pub use showing::{shown, shown_place};
+pub use message::{Message, code_of, message_of};
+pub use showing::{headed, noted, numbered, placed};
 pub use subject::Subject;
-pub use table::{remedy, sentence};
+pub use table::{remedy, sentence, wrong_with};
+pub use unseen::{has_unseen, is_unseen};

@@ -122,11 +122,7 @@ fn unknown_remedy(subject: Subject) -> &'static str
 }
 
 /// What is wrong, and after it the name that may have been meant, if there is one.
-pub(crate) fn wrong_with(
-    alloc: Global,
-    wrong: &str,
-    meant: Option<&str>,
-) -> Result<String, AllocError>
+pub fn wrong_with(alloc: Global, wrong: &str, meant: Option<&str>) -> Result<String, AllocError>
     ensures { IfOk result (λ text. string_bytes text ≡ wrong_with wrong.now (option_copied meant.entry)) }
 {
     match meant {
@@ -224,7 +220,7 @@ pub fn remedy(code: Code, subject: Subject) -> &'static str
             "close the quote; write ${name}, ${name:-word}, ${name:+word} or ${name:?word}, and \\$ for the character $",
         Code::R10 => name_remedy(subject),
         Code::R11 => "rename one of the two",
-        Code::R12 => "bring the image with the bundle, or name a stage above",
+        Code::R12 => "pack the image by --image NAME=FILE, or name a stage above",
         Code::R13 => "name a stage of the file, or count from 0",
         Code::R14 => "write / at the end of the destination",
         Code::R15 => "close each [, and write \\[ where the character [ is meant",
