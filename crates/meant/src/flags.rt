@@ -74,7 +74,11 @@ fn valued_flag(alloc: Global, name: &str, value: &str) -> Result<Message, Memory
     ensures { IfOk result (λ message. message ≡ valued_flag name.now value.now) }
 {
     if value.is_empty() {
-        return unvalued(alloc, name, "write --from=name, --chown=1000:1000 or --chmod=644");
+        return unvalued(
+            alloc,
+            name,
+            "write --from=name, --chown=1000:1000 or --chmod=644",
+        );
     }
     repeated(alloc, name)
 }

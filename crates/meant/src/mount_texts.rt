@@ -39,7 +39,16 @@ fn unknown_key(alloc: Global, key: &str) -> Result<Message, Memory>
             alloc,
             wrong,
             key,
-            &["type", "target", "source", "from", "rw", "id", "sharing", "destination"],
+            &[
+                "type",
+                "target",
+                "source",
+                "from",
+                "rw",
+                "id",
+                "sharing",
+                "destination",
+            ],
             "a bind takes type, target, source, from and rw, a cache type, target, id and sharing",
         ),
     }
@@ -95,7 +104,13 @@ fn unknown_type(alloc: Global, value: &str) -> Result<Message, Memory>
         }
         None => {
             let wrong = format!(in alloc; "there are no mounts of type {value}")?;
-            said_near(alloc, wrong, value, &["bind", "cache"], "write type=bind or type=cache")
+            said_near(
+                alloc,
+                wrong,
+                value,
+                &["bind", "cache"],
+                "write type=bind or type=cache",
+            )
         }
     }
 }
@@ -124,7 +139,13 @@ fn untaken(alloc: Global, wrong: String, key: &str, value: &str) -> Result<Messa
             "write sharing=shared, sharing=private or sharing=locked",
         );
     }
-    said_near(alloc, wrong, value, &["true", "false"], "write rw=true, or drop it")
+    said_near(
+        alloc,
+        wrong,
+        value,
+        &["true", "false"],
+        "write rw=true, or drop it",
+    )
 }
 
 /// What is said of a key that stands in an item before.
@@ -140,12 +161,7 @@ fn twice(alloc: Global, key: &str) -> Result<Message, Memory>
 }
 
 /// What is said of an item of a cache, else of a bind, with which this is wrong.
-fn item_message(
-    alloc: Global,
-    cache: bool,
-    item: &str,
-    fault: ItemFault,
-) -> Result<Message, Memory>
+fn item_message(alloc: Global, cache: bool, item: &str, fault: ItemFault) -> Result<Message, Memory>
     ensures { IfOk result (λ message. message ≡ item_message cache item.now fault) }
 {
     let key = key_of(item);

@@ -107,7 +107,11 @@ fn is_of_cache(name: &str) -> bool
 fn fits(cache: bool, name: &str) -> bool
     ensures { result ≡ fits cache name.now }
 {
-    if cache { !is_of_bind(name) } else { !is_of_cache(name) }
+    if cache {
+        !is_of_bind(name)
+    } else {
+        !is_of_cache(name)
+    }
 }
 
 /// Whether the key of this name takes a value.

@@ -75,13 +75,7 @@ pub(crate) fn target_message(
     let names = whole_names(alloc, stages.as_slice())?;
     let wrong = format!(in alloc; "there is no stage {target}")?;
     let helps = listed_help(alloc, names.as_slice(), "count the stages from 0")?;
-    Ok(Some(said_near_texts(
-        alloc,
-        wrong,
-        target,
-        names.as_slice(),
-        helps,
-    )?))
+    Ok(Some(said_near_texts(alloc, wrong, target, names.as_slice(), helps)?))
 }
 
 /// The names of stages and after them those of images.

@@ -76,9 +76,7 @@ fn told_by(
     ensures { IfOk result (λ message. message ≡ told_by (option_copied target.entry) images.now (option_copied base.entry) (map (λ line. line.now) lines.now) (map (λ line. line.now) own.now) reason.now number (option_copied word.entry)) }
 {
     match reason {
-        Reason::Coded(code) => told(
-            alloc, target, images, base, lines, own, *code, number, word,
-        ),
+        Reason::Coded(code) => told(alloc, target, images, base, lines, own, *code, number, word),
         Reason::Required(_) => Ok(None),
     }
 }
