@@ -276,7 +276,13 @@ impl Index {
     }
 
     /// The same, of a path that lies right in the folder that left this.
-    pub(crate) fn verdict_left(&self, lines: &[Line], left: &Left, names: &[Text], above: usize) -> usize
+    pub(crate) fn verdict_left(
+        &self,
+        lines: &[Line],
+        left: &Left,
+        names: &[Text],
+        above: usize,
+    ) -> usize
         requires index { IsIndex lines.now self.now.by_name.entries self.now.by_folder.entries self.now.by_begin self.now.by_count self.now.others }
         requires left { IsLeft lines.now self.now (take (length names.now - 1) names.now) left.now }
         requires some { 1 ≤ length names.now }

@@ -442,7 +442,17 @@ fn read_names<'a, R: Files + AllocGlobal + Clone + Drop>(
             for row in rows {
                 match row {
                     Ok(row) => {
-                        read_row(rt, alloc, &row, at.path(), &lines, leaving, found, left, why)?
+                        read_row(
+                            rt,
+                            alloc,
+                            &row,
+                            at.path(),
+                            &lines,
+                            leaving,
+                            found,
+                            left,
+                            why,
+                        )?
                     }
                     Err(error) => return Err(refuse_error(alloc, why, place, &error)),
                 }

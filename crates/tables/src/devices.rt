@@ -151,7 +151,15 @@ pub fn run<F: Files + AllocGlobal + Clone + Drop>(
     devices: Devices,
 ) -> Ended {
     match words_of(alloc, line) {
-        Ok(words) => run_words(alloc, keys, rt, files, Ok(after_name(words.as_slice())), bytes, devices),
+        Ok(words) => run_words(
+            alloc,
+            keys,
+            rt,
+            files,
+            Ok(after_name(words.as_slice())),
+            bytes,
+            devices,
+        ),
         Err(fault) => run_words(alloc, keys, rt, files, Err(fault), bytes, devices),
     }
 }
