@@ -3,7 +3,7 @@
 // `NUMBER:TEXT`, each heredoc as `<NAME|BODY>`, with `-` where its tabs are dropped and `'` where its name is in quotes. A text is fed in
 // pieces of three bytes.
 //
-// `pieces`: texts that are fed in the pieces between `¦`, in which `⟨FF⟩` is a byte. Behind `»` stand the lines that are ready after each
+// `pieces`: texts that are fed in the pieces between `¦`, in which `⟨FF⟩` is a byte, some after a name and ` | `. Behind `»` stand the lines that are ready after each
 // piece, each time with `¦` behind them, and then what the text gives.
 
 use lines::{Heredoc, Line, LineFault, Reader};
@@ -19,8 +19,9 @@ pub fn answer(alloc: Global, case: &str) -> Result<String, Memory> {
 
 pub fn answer_in_pieces(alloc: Global, case: &str) -> Result<String, Memory> {
     let text = case.strip_suffix('»').unwrap_or(case);
+    let (_, fed) = text.split_once(" | ").unwrap_or(("", text));
     let mut reader = Reader::new(alloc);
-    match shown_in_pieces(alloc, &mut reader, text) {
+    match shown_in_pieces(alloc, &mut reader, fed) {
         Ok(ready) => {
             let shown = shown_answer(alloc, reader.finish(alloc))?;
             let shown = masked(alloc, shown.as_str())?;

@@ -23,7 +23,7 @@ pub fn answer(
     let (plan, events) = rest.rsplit_once(" | ").unwrap_or((rest, ""));
     let events = events_of(alloc, events)?;
     let text = if plan.starts_with("{") {
-        of_bundle(alloc, rt, plan, events.as_slice())?
+        of_bundle(alloc, keys, rt, plan, events.as_slice())?
     } else {
         by_hand(alloc, plan, events.as_slice())?
     };
@@ -61,6 +61,7 @@ fn by_hand(alloc: Global, plan: &str, events: &[Event]) -> Result<String, Memory
 /// The history of the plan of a bundle.
 fn of_bundle(
     alloc: Global,
+    keys: RandomState,
     rt: &(impl Threads + Sync),
     bundle: &str,
     events: &[Event],

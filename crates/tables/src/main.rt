@@ -10,11 +10,13 @@ mod buildkit;
 mod by_hand;
 mod changing;
 mod commands;
+mod copies;
 mod definitions;
 mod devices;
 mod errors;
 mod failing;
 mod files;
+mod flat;
 mod flattening;
 mod graphs;
 mod handing;
@@ -70,6 +72,7 @@ enum Table {
     OneCell,
     Leases,
     Trees,
+    Copies,
     Definitions,
     Llb,
     Programs,
@@ -132,6 +135,7 @@ fn table_of(name: &str) -> Table {
         "one cell" => Table::OneCell,
         "leases" => Table::Leases,
         "trees" => Table::Trees,
+        "copies" => Table::Copies,
         "definitions" => Table::Definitions,
         "llb" => Table::Llb,
         "programs" => Table::Programs,
@@ -171,6 +175,7 @@ fn answer<F: Files + AllocGlobal + Clone + Drop>(
         Table::OneCell => one_cell::answer(alloc, rt, case),
         Table::Leases => leases::answer(alloc, case),
         Table::Trees => steps::answer(alloc, case),
+        Table::Copies => copies::answer(alloc, keys, rt, files, case),
         Table::Definitions => definitions::answer(alloc, case),
         Table::Llb => buildkit::answer(alloc, keys, case),
         Table::Programs => programs::answer(alloc, keys, rt, files, case),

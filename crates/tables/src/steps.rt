@@ -11,8 +11,10 @@
 // to on the tree N.
 //
 // Cases whose names begin with `list_` are made by `tools/tree-lists`, which answers them by maps from paths to entries that share nothing.
+// The flat map of `flat` answers them too, and a list of which it tells something else says so.
 
 use crate::changing::change;
+use crate::flat;
 use crate::reading::{cut, tree_at, trees_from};
 use crate::running::{tell_idle, tell_mounted, tell_run};
 use crate::telling::{begin, push_listing, push_root, push_sum};
@@ -23,6 +25,12 @@ use trees::Tree;
 pub fn answer(alloc: Global, case: &str) -> Result<String, Memory> {
     let (name, steps) = case.split_once(" | ").unwrap_or((case, ""));
     let told = told_by(alloc, steps)?;
+    if name.starts_with("list_") {
+        let flat = flat::told_by(alloc, steps)?;
+        if flat.as_str() != told.as_str() {
+            return Ok(format!(in alloc; "{name}: {told}, by a flat map {flat}")?);
+        }
+    }
     Ok(format!(in alloc; "{name}: {told}")?)
 }
 

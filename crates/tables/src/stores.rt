@@ -13,17 +13,17 @@ use cachemounts::CacheStore;
 use executor::{Executor, Fixture, Outcome, Request};
 use imageconfig::Config;
 use memo::Memo;
-use plain::{Exact, Memory};
+use plain::Memory;
 use plans::Plan;
 use samples::listing;
-use solver::{Answer, Gate, OpenGate, Solution};
+use solver::{Gate, OpenGate, Solution};
 use std::alloc::Global;
 use std::hash::RandomState;
 use std::sync::Wait;
 use std::sync::atomic::{AtomicU64, Ordering};
 use std::thread::Threads;
 use trees::Tree;
-use workers::solve;
+use workers::solve_together;
 
 /// Runs commands as the fixture does, and wants memory from the one of this number on.
 #[derive(Drop)]
@@ -146,7 +146,7 @@ fn plan_text(
 }
 
 /// What a plan comes to over a store and with a memo, and whether a lease is out then.
-pub fn solved<C: Exact + Drop, E: Executor, G: Gate>(
+pub fn solved<C, E: Executor, G: Gate>(
     alloc: Global,
     rt: &(impl Threads + Wait + Sync),
     plan: &Plan<C>,
@@ -161,26 +161,15 @@ pub fn solved<C: Exact + Drop, E: Executor, G: Gate>(
     requires idle { caches.old.holds ≡ [] }
     ensures idle { caches.new.holds ≡ [] }
 {
-    let answer = solve(alloc, rt, plan, executor, workers, gate, caches, memo);
-    let text = match answer {
-        Ok(answer) => answer_text(alloc, answer),
+    let solution = solve_together(alloc, rt, plan, executor, workers, gate, caches, memo);
+    let text = match solution {
+        Ok(solution) => solution_text(alloc, solution),
         Err(Memory) => Ok(String::from_str(alloc, "out of memory")?),
     };
     if caches.is_idle() {
         text
     } else {
         Ok(format!(in alloc; "{}, with a lease out", text?)?)
-    }
-}
-
-/// What an answer is, in a line.
-fn answer_text<C: Drop>(alloc: Global, answer: Answer<C>) -> Result<String, Memory> {
-    match answer {
-        Answer::Built(tree, config) => {
-            drop(config);
-            solution_text(alloc, Solution::Built(tree))
-        }
-        Answer::Failed { place, cause } => Ok(format!(in alloc; "failed {place}: {cause}")?),
     }
 }
 

@@ -65,7 +65,8 @@ pub fn push_sum(alloc: Global, told: &mut String, trees: &[Tree]) -> Result<(), 
     Ok(write!(told, "{sum}")?)
 }
 
-fn sum_of(bytes: &[u8]) -> u64 {
+/// A number for a text.
+pub fn sum_of(bytes: &[u8]) -> u64 {
     let mut sum = 0u64;
     for byte in bytes {
         sum = sum.wrapping_mul(1_000_003).wrapping_add(u64::from(*byte));
