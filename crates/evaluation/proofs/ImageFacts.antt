@@ -46,8 +46,8 @@ pub name_added : {V : Type 0} (rows new : List (List ℕ × V)) (copied name : L
 name_added {V} rows new copied name value old made is view =
     ap (λ (rs : List (List ℕ × V)). map (λ r. r.0) rs) made ∙ row_added rows copied value ∙ ap (λ (ns : ImageNames). with_name ns copied) view ∙ ap (with_name old) is
 
-pub name_there : {V : Type 0} (rows : List (List ℕ × V)) (lent name : List ℕ) (names : ImageNames) (found : Bool) → found ≡ has_row lent rows → lent ≡ name → map (λ r. r.0) rows ≡ names → found ≡ is_among names name
-name_there rows lent name names found is same view = is ∙ any_named rows lent ∙ (λ i. is_among (view i) (same i))
+pub name_there : {V : Type 0} (rows : List (List ℕ × V)) (name : List ℕ) (names : ImageNames) (found : Bool) → found ≡ has_row name rows → map (λ r. r.0) rows ≡ names → found ≡ is_among names name
+name_there rows name names found is view = is ∙ any_named rows name ∙ ap (λ (ns : ImageNames). is_among ns name) view
 
 -- names that are there stay, and those that are added are there
 
