@@ -16,5 +16,5 @@ returns-clause-says g c =
     (says_both
     (says_as c.put_list-later-2.ensures.says (ap₂ (λ xs b. said_if (is_set xs) b (codes "Entrypoint") (compact_text (list_data string xs))) c.as_slice-2.ensures one))
     (says_both
-    (says_as c.put_variables.ensures.says (ap₂ (λ xs b. said_if (is_set xs) b (codes "Env") (compact_text (list_data variable_data xs))) c.as_slice-3.ensures two))
+    (says_as c.put_variables.ensures.says (ap (λ b. said_if (is_set c.args.config.now.env) b (codes "Env") (compact_text (list_data variable_data c.args.config.now.env))) two))
     (says_none _)))
