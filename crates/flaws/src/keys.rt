@@ -3,7 +3,7 @@
 ghost use Rattle.std.specs.Prelude.{◌≡◌, IfOk, map};
 ghost use Rattle.bundle.specs.Parts.{is_image_name};
 ghost use Rattle.borrowed.specs.Seen.{data_of};
-ghost use Rattle.flaws.specs.Looks.{first_key, keys, is_among, no_other};
+ghost use Rattle.flaws.specs.Looks.{first_key, keys as keys_flaw, is_among, no_other};
 
 use crate::flaw::Step;
 use crate::looking::{Look, Looked, to_key};
@@ -105,7 +105,7 @@ pub(crate) fn image_names(
     keys: RandomState,
     value: &Value<'_>,
 ) -> Result<Option<Items<Step>>, Memory>
-    ensures { IfOk result (λ found. found ≡ keys is_image_name (data_of value.now)) }
+    ensures { IfOk result (λ found. found ≡ keys_flaw is_image_name (data_of value.now)) }
 {
     match keyed_rows::<Looked<Any>>(alloc, keys, value) {
         Ok(rows) => first_bad_name(alloc, rows.as_slice()),
