@@ -1,4 +1,4 @@
-use Rattle.std.proofs.Common.{refl}
+use Rattle.std.proofs.Common.{refl, ◌∙◌}
 use Rattle.plans.specs.Plan.{problem_of}
 use Rattle.memo.specs.Memo.{Knows}
 use Rattle.memo.proofs.GrowLemmas.{grows-same}
@@ -17,3 +17,7 @@ returns-in_err-config-clause-runs g c =
 
 pub returns-in_err-config-clause-memo : goal.returns-in_err-config-clause-memo
 returns-in_err-config-clause-memo g c = grows-same c.args.memo.now
+
+-- the answer is the solution, with a copy of the plan's configuration
+pub returns-in-Ok-clause-answer : goal.returns-in-Ok-clause-answer
+returns-in-Ok-clause-answer g c = c.of.ensures (g.E.Executor.out c.args.executor.now) c.args.plan.now (c.in_ok-config.ensures ∙ c.config.ensures) c.in-Ok.ensures.solution
