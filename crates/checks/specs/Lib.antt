@@ -1,0 +1,9 @@
+pub mod Checked
+pub mod Checks
+pub mod Failing
+pub mod Images
+pub mod Layout
+pub mod Mark
+pub mod PrivateImages
+pub mod Shown
+pub mod Visible

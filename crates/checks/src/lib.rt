@@ -5,9 +5,8 @@
 // lines after one that is refused have no values to be judged by, nor has a stage that begins with one that is refused. It runs nothing, so it doesn't
 // tell whether a build would fail.
 //
-// `shown_faults` shows faults, each with the line that it is about, to a person or as lines of JSON. It is given the faults and their text. One
-// fault is shown in one walk through the text. Where there are several, the lines are listed first, so each is found at once. `check` does both,
-// and shows bytes that are no bundle with where they are wrong, which `flaws` finds.
+// `shown_faults` shows faults, each with the lines that it is about, to a person or as lines of JSON. It is given the faults and their text, whose lines it
+// lists first, so that each is found at once. `check` does both, and shows bytes that are no bundle with where they are wrong, which `flaws` finds.
 //
 // What is said of a fault, `meant` finds. If the lines of its instruction tell which of their words it is about, which `pointed` finds, the line of that word
 // is shown, for a person with a mark under it, and else all lines of the instruction.

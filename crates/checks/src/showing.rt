@@ -21,15 +21,14 @@ use sentences::{Message, Subject, code_of, headed, noted, place_line, remedy, se
 use std::alloc::{AllocError, Global};
 
 /// What is shown of faults of a build of this target with images of these names, in their order and in this form, whose lines are counted in this text: a
-/// Dockerfile's, or that of its ignore file. It need not be UTF-8: what isn't is shown as U+FFFD. The line of a number that the text hasn't is shown as
-/// an empty one.
+/// Dockerfile's, or that of its ignore file. It need not be UTF-8: what isn't is shown as U+FFFD. Of a number that the text hasn't no line is shown, or an
+/// empty one where one is shown alone.
 ///
-/// Of an instruction that isn't known, of a stage or an image that isn't there, and of a target that is no stage, the name is shown that may have been
-/// meant, if one is near. Of a word that a fault is about, as far as the line tells it, the column is shown, and to a
-/// person a mark under it.
+/// A fault is shown with all lines of its instruction, and with what `message_by` of `meant` says of it. Of a word that a fault is about, as far as the lines
+/// tell it, the column is shown, and to a person its line alone, with a mark under it.
 ///
-/// To a person a control character of a line, other than a tab, is shown by its number, as `\x1b`, and so is one of the text of R21, so none gives
-/// orders to a terminal. A program gets both as they stand.
+/// To a person a character that can't be seen, other than a tab, is shown by its number, as `\x1b` or `\u200b`, in a line as in what is said of it, so none
+/// gives orders to a terminal. A program gets both as they stand.
 pub fn shown_faults(
     alloc: Global,
     faults: &[Rejection],
