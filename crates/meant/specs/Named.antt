@@ -26,12 +26,17 @@ listed_help names other = if length names == 0 then other
 abbrev pub whole_names : List (List ℕ) → List (List ℕ)
 whole_names names = filter is_whole names
 
--- what is said of a target that is no stage, by the stages of its file: the nearest may have been meant
+-- what is said of a target that is none of these stages: the nearest of them may have been meant
 abbrev pub missing_target : List (List ℕ) → List ℕ → Message
 missing_target names target = said_near (codes "there is no stage " ++ target) target names (listed_help names (codes "count the stages from 0"))
 
-unfoldable pub target_message : Option (List ℕ) → List (List ℕ) → Option Message
-target_message target lines = option_map (missing_target (whole_names (stages_in lines))) target
+-- the same of a file, by the stages of its lines
+abbrev pub target_among : List ℕ → List (List ℕ) → Message
+target_among target lines = missing_target (whole_names (stages_in lines)) target
+
+-- the same if there is a target
+abbrev pub target_message : Option (List ℕ) → List (List ℕ) → Option Message
+target_message target lines = option_map (λ it. target_among it lines) target
 
 -- the most images with which a name on a line is compared
 abbrev pub most_compared_images : ℕ
@@ -45,10 +50,18 @@ most_compared_lines = 512
 abbrev pub are_few : ℕ → ℕ → Bool
 are_few images lines = nat_le images most_compared_images && nat_le lines most_compared_lines
 
--- what is said of a name that leads to none of these stages and images: the nearest of them may have been meant
+-- what helps against a name that leads to none of these stages and images
+abbrev pub packing_help : List (List ℕ) → List ℕ → List ℕ
+packing_help names name = listed_help names (codes "pack the image by --image " ++ (name ++ codes "=FILE"))
+
+-- what is said of a name that leads to none of these stages and images, each of which stands on its line whole: the nearest of them may have been meant
+abbrev pub missing_among : List ℕ → List (List ℕ) → Message
+missing_among name names =
+    said_near (codes "there is no image " ++ (name ++ codes ", and no stage of this name above")) name names (packing_help names name)
+
+-- the same of any of these names
 abbrev pub missing_source : List ℕ → List (List ℕ) → Message
-missing_source name names = said_near (codes "there is no image " ++ (name ++ codes ", and no stage of this name above")) name (whole_names names)
-    (listed_help (whole_names names) (codes "pack the image by --image " ++ (name ++ codes "=FILE")))
+missing_source name names = missing_among name (whole_names names)
 
 -- the name that a line asks for and that leads to none of these stages and images: that of a FROM as its variables have it, if that is known, or the first
 -- one that is written so

@@ -3,7 +3,7 @@ ghost use Rattle.std.specs.Prelude.{◌≡◌, ◌++◌, filter, map, option_map
 ghost use Rattle.std.specs.Option.{option_copied};
 ghost use Rattle.std.specs.String.{string_bytes};
 ghost use Rattle.meant.specs.Escapes.{is_whole};
-ghost use Rattle.meant.specs.Named.{listed, listed_help, target_message, are_few, missing_source, astray, source_among, source_message};
+ghost use Rattle.meant.specs.Named.{listed, listed_help, missing_target, target_among, target_message, are_few, packing_help, missing_among, missing_source, astray, source_among, source_message};
 
 use crate::begun::{ended_stages, has_unfinished, lines_until, stages_in};
 use crate::escapes::is_whole;
@@ -58,8 +58,25 @@ fn listed_help(alloc: Global, names: &[&str], other: &str) -> Result<String, Mem
     Ok(format!(in alloc; "write {listed}or {other}")?)
 }
 
+/// What is said of a target that is none of these stages.
+fn missing_target(alloc: Global, names: &[&str], target: &str) -> Result<Message, Memory>
+    ensures { IfOk result (λ message. message ≡ missing_target (map (λ name. name.now) names.now) target.now) }
+{
+    let wrong = format!(in alloc; "there is no stage {target}")?;
+    let helps = listed_help(alloc, names, "count the stages from 0")?;
+    said_near_texts(alloc, wrong, target, names, helps)
+}
+
+/// The same of a file, by the stages of its lines.
+fn target_among(alloc: Global, target: &str, lines: &[&str]) -> Result<Message, Memory>
+    ensures { IfOk result (λ message. message ≡ target_among target.now (map (λ line. line.now) lines.now)) }
+{
+    let stages = stages_in(alloc, lines)?;
+    let names = whole_names(alloc, stages.as_slice())?;
+    missing_target(alloc, names.as_slice(), target)
+}
+
 /// What is said of a target that is no stage, by the stages of its file; none if there is no target.
-#[tactic(auto, unfolding(crate::specs::Named::target_message))]
 pub(crate) fn target_message(
     alloc: Global,
     target: Option<&Text>,
@@ -67,15 +84,10 @@ pub(crate) fn target_message(
 ) -> Result<Option<Message>, Memory>
     ensures { IfOk result (λ message. message ≡ target_message (option_copied target.entry) (map (λ line. line.now) lines.now)) }
 {
-    let Some(target) = target else {
-        return Ok(None);
-    };
-    let target = target.as_str();
-    let stages = stages_in(alloc, lines)?;
-    let names = whole_names(alloc, stages.as_slice())?;
-    let wrong = format!(in alloc; "there is no stage {target}")?;
-    let helps = listed_help(alloc, names.as_slice(), "count the stages from 0")?;
-    Ok(Some(said_near_texts(alloc, wrong, target, names.as_slice(), helps)?))
+    match target {
+        Some(target) => Ok(Some(target_among(alloc, target.as_str(), lines)?)),
+        None => Ok(None),
+    }
 }
 
 /// The names of stages and after them those of images.
@@ -96,15 +108,29 @@ fn are_few(images: usize, lines: usize) -> bool
     images <= MOST_COMPARED_IMAGES && lines <= MOST_COMPARED_LINES
 }
 
-/// What is said of a name that leads to none of these stages and images.
+/// What helps against a name that leads to none of these stages and images.
+fn packing_help(alloc: Global, names: &[&str], name: &str) -> Result<String, Memory>
+    ensures { IfOk result (λ text. string_bytes text ≡ packing_help (map (λ it. it.now) names.now) name.now) }
+{
+    let other = format!(in alloc; "pack the image by --image {name}=FILE")?;
+    listed_help(alloc, names, other.as_str())
+}
+
+/// What is said of a name that leads to none of these stages and images, each of which stands on its line whole.
+fn missing_among(alloc: Global, name: &str, names: &[&str]) -> Result<Message, Memory>
+    ensures { IfOk result (λ message. message ≡ missing_among name.now (map (λ it. it.now) names.now)) }
+{
+    let wrong = format!(in alloc; "there is no image {name}, and no stage of this name above")?;
+    let helps = packing_help(alloc, names, name)?;
+    said_near_texts(alloc, wrong, name, names, helps)
+}
+
+/// The same of any of these names.
 fn missing_source(alloc: Global, name: &str, names: &[&str]) -> Result<Message, Memory>
     ensures { IfOk result (λ message. message ≡ missing_source name.now (map (λ it. it.now) names.now)) }
 {
     let names = whole_names(alloc, names)?;
-    let wrong = format!(in alloc; "there is no image {name}, and no stage of this name above")?;
-    let other = format!(in alloc; "pack the image by --image {name}=FILE")?;
-    let helps = listed_help(alloc, names.as_slice(), other.as_str())?;
-    said_near_texts(alloc, wrong, name, names.as_slice(), helps)
+    missing_among(alloc, name, names.as_slice())
 }
 
 /// The name that a line asks for and that leads to none of these stages and images: that of a FROM as its variables have it, if that is known, or the first
