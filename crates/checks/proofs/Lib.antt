@@ -1,4 +1,5 @@
 mod CheckFacts
 mod ImageFacts
 mod ListFacts
+mod MarkFacts
 mod TextFacts

@@ -2,6 +2,7 @@
 ghost use Rattle.std.specs.Prelude.{◌≡◌, map, IfOk};
 ghost use Rattle.std.specs.Str.Lossy.{utf8_lossy};
 ghost use Rattle.lines.specs.Text.{text_lines};
+ghost use Rattle.meant.specs.Own.{own_of};
 ghost use Rattle.trees.specs.Cause.{cause_text};
 ghost use Rattle.checks.specs.Failing.{shown_cause, shown_failure, shown_left_out, shown_missing};
 ghost use Rattle.checks.specs.Shown.{readable_lines};
@@ -37,6 +38,22 @@ fn shown_cause(
     Ok(Text::from_string(shown))
 }
 
+/// The same of an instruction of this Dockerfile, by the number of the line on which it begins.
+fn shown_at(
+    alloc: Global,
+    text: &[u8],
+    number: u32,
+    cause: Cause,
+    message: &Message,
+) -> Result<Text, Memory>
+    ensures { IfOk result (λ shown. shown ≡ shown_cause number cause (own_of (readable_lines text.now) number) message.now) }
+{
+    let readable = String::from_utf8_lossy(alloc, text)?;
+    let lines = lines_of(alloc, readable.as_str())?;
+    let own = own_of(alloc, lines.as_slice(), number)?;
+    shown_cause(alloc, number, cause, own.as_slice(), message)
+}
+
 /// What is shown to a person of an instruction of this Dockerfile that failed with this cause, by the number of the line on which it begins. The
 /// text need not be UTF-8, and characters that can't be seen are shown by their numbers, as `shown_faults` shows them. Of a number that the text hasn't no
 /// line is shown.
@@ -56,11 +73,8 @@ pub fn shown_failure(alloc: Global, text: &[u8], number: u32, cause: Cause) -> R
 pub fn shown_missing(alloc: Global, text: &[u8], number: u32, source: &str) -> Result<Text, Memory>
     ensures { IfOk result (λ shown. shown ≡ shown_missing (readable_lines text.now) number source.now) }
 {
-    let readable = String::from_utf8_lossy(alloc, text)?;
-    let lines = lines_of(alloc, readable.as_str())?;
-    let own = own_of(alloc, lines.as_slice(), number)?;
     let message = missing_message(alloc, source)?;
-    shown_cause(alloc, number, Cause::F1, own.as_slice(), &message)
+    shown_at(alloc, text, number, Cause::F1, &message)
 }
 
 /// The same of a source that the ignore file leaves out, by the number and the text of the line that does.
@@ -74,10 +88,7 @@ pub fn shown_left_out(
 ) -> Result<Text, Memory>
     ensures { IfOk result (λ shown. shown ≡ shown_left_out (readable_lines text.now) number source.now ignoring ignored.now) }
 {
-    let readable = String::from_utf8_lossy(alloc, text)?;
     let ignored = String::from_utf8_lossy(alloc, ignored)?;
-    let lines = lines_of(alloc, readable.as_str())?;
-    let own = own_of(alloc, lines.as_slice(), number)?;
     let message = left_out_message(alloc, source, ignoring, ignored.as_str())?;
-    shown_cause(alloc, number, Cause::F1, own.as_slice(), &message)
+    shown_at(alloc, text, number, Cause::F1, &message)
 }

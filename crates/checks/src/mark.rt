@@ -148,7 +148,7 @@ pub(crate) fn spot_by<'a>(
 
 /// A word with where it stands.
 fn marked_whole(alloc: Global, above: usize, spot: Pointed<'_>) -> Result<Marked, Memory>
-    ensures { IfOk result (λ marked. marked ≡ marked_whole (above, spot_of spot)) }
+    ensures { IfOk result (λ marked. marked ≡ marked_whole (above, spot_of spot.entry)) }
 {
     let before = Text::from_str(alloc, spot.before)?;
     let word = Text::from_str(alloc, spot.word)?;
@@ -161,7 +161,7 @@ fn marked_whole(alloc: Global, above: usize, spot: Pointed<'_>) -> Result<Marked
 
 /// The item of a mount that is marked in place of its flag: the first one with which something is wrong.
 fn marked_item(alloc: Global, above: usize, spot: Pointed<'_>) -> Result<Marked, Memory>
-    ensures { IfOk result (λ marked. marked ≡ marked_item (above, spot_of spot)) }
+    ensures { IfOk result (λ marked. marked ≡ marked_item (above, spot_of spot.entry)) }
 {
     match faulty_item(alloc, spot.word)? {
         Some(found) => {

@@ -1,4 +1,4 @@
-use Rattle.std.proofs.Common.{◌≡◌, IfOk, map, subst}
+use Rattle.std.proofs.Common.{◌≡◌, ◌∙◌, IfOk, map, subst}
 use Rattle.expand.specs.Reasons.{rejection_of}
 use Rattle.checks.proofs.CheckFacts.{text_faulty, text_sound}
 use Rattle.checks.proofs.checking.check_file.Goals as goal
@@ -10,4 +10,4 @@ pub returns-in-Err-Because : goal.returns-in-Err-Because
 returns-in-Err-Because c =
     text_faulty c.args.bundle c.as_slice.result.now c.in-Err-Because.field-0 c.in-Err-Because.refusals c.rejections.result c.as_slice.ensures c.in-Err-Because.field-0-is
     c.in-Err-Because.ensures
-    (subst (λ refusals. IfOk c.rejections.result (λ faults. faults ≡ map rejection_of refusals)) c.as_slice-in-Err-Because.ensures c.rejections.ensures)
+    (subst (λ refusals. IfOk c.rejections.result (λ faults. faults ≡ map rejection_of refusals)) (c.as_slice-in-Err-Because.ensures ∙ c.in-Err-Because.refusals-is) c.rejections.ensures)
