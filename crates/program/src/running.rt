@@ -199,12 +199,17 @@ fn finish_pack<S: CountedWrite>(errors: &mut S, ended: Result<Status, PackFault>
     ensures is { result ≡ exit_status ended }
 {
     match &ended {
-        Ok(Status::Built) => {}
-        Ok(Status::Failed) => {}
-        Ok(Status::Refused) => say(errors, "no Dockerfile\n"),
-        Err(fault) => say(errors, pack_fault_line(*fault)),
+        Ok(Status::Built) => status_code(ended),
+        Ok(Status::Failed) => status_code(ended),
+        Ok(Status::Refused) => {
+            say(errors, "no Dockerfile\n");
+            status_code(ended)
+        }
+        Err(fault) => {
+            say(errors, pack_fault_line(*fault));
+            status_code(ended)
+        }
     }
-    status_code(ended)
 }
 
 /// The same, naming what can't be packed, or the file that can't be written.
