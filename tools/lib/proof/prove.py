@@ -1,7 +1,6 @@
-#!/usr/bin/env python3
 """Proves a crate and the crates below it, side by side.
 
-    tools/prove [CRATE]      CRATE is dfsolve where it is left out
+    tools/proof prove [CRATE]      CRATE is dfsolve where it is left out
 
 A crate is proved as soon as those below it are; of several it takes the one first from which the longest chain leads up. As many are
 proved at a time as there are processors and memory for them. What is kept in out/ isn't proved again. Where CRATE is a program, it is
@@ -22,7 +21,8 @@ import threading
 import time
 from concurrent.futures import FIRST_COMPLETED, ThreadPoolExecutor, wait
 
-TOP = os.path.dirname(os.path.dirname(os.path.abspath(__file__)))
+from common import CRATES, TOP, rtlib
+
 MEMORY_OF_A_CHECK = 3 << 30
 SECONDS_OF_AN_EXAMPLE = 120
 ONE_JOB = ["--jobs", "1"]
@@ -31,15 +31,6 @@ ONE_JOB = ["--jobs", "1"]
 def lanes():
     memory = os.sysconf("SC_PHYS_PAGES") * os.sysconf("SC_PAGE_SIZE")
     return max(1, min(len(os.sched_getaffinity(0)), memory // MEMORY_OF_A_CHECK))
-
-
-def toolchain_module():
-    sys.dont_write_bytecode = True
-    sys.path.insert(0, os.path.dirname(os.path.realpath(shutil.which("rt"))))
-    import rtlib
-
-    add_up_once(rtlib.Crate)
-    return rtlib
 
 
 def add_up_once(crate_type):
@@ -121,25 +112,26 @@ def prove_in_lanes(crates):
                 status, said = ended.result()
                 minutes = (time.time() - began) / 60
                 if status:
-                    print(f"{said}tools/prove: {crate.name} is not proved ({minutes:.0f} minutes)", file=sys.stderr, flush=True)
+                    print(f"{said}tools/proof prove: {crate.name} is not proved ({minutes:.0f} minutes)", file=sys.stderr, flush=True)
                     continue
                 done.add(crate)
                 print(f"proved: {crate.name} ({len(done)} of {len(crates)} crates, {minutes:.0f} minutes)", file=sys.stderr, flush=True)
 
 
 def prove_by_module(folder):
-    rtlib = toolchain_module()
+    module = rtlib()
+    add_up_once(module.Crate)
     # (with Python's own handler an interrupt would wait for the checks)
     signal.signal(signal.SIGINT, signal.SIG_DFL)
     # what ends the checks with this process has to start before any thread
-    rtlib.guarded()
-    top = rtlib.Crate(folder, TOP, {})
+    module.guarded()
+    top = module.Crate(folder, TOP, {})
     crates = [*top.below(), top]
-    locks = rtlib.lock(crates)
+    locks = module.lock(crates)
     try:
         for crate in crates:
-            rtlib.stop_on_links(crate.folder)
-            rtlib.stop_on_text(crate, "check")
+            module.stop_on_links(crate.folder)
+            module.stop_on_text(crate, "check")
         if prove_in_lanes(crates):
             sys.exit(1)
     finally:
@@ -159,18 +151,15 @@ def prove_by_commands(folder):
             sys.exit(1)
 
 
-def main():
-    name = sys.argv[1] if len(sys.argv) > 1 else "dfsolve"
-    folder = os.path.join(TOP, "crates", name)
+def main(words):
+    name = words[0] if words else "dfsolve"
+    folder = f"{CRATES}/{name}"
     if not os.path.isdir(os.path.join(folder, "src")):
-        sys.exit(f"tools/prove: there is no crate {name}")
+        sys.exit(f"tools/proof prove: there is no crate {name}")
     if not shutil.which("rt"):
-        sys.exit("tools/prove: the toolchain's rt is not on the PATH")
+        sys.exit("tools/proof prove: the toolchain's rt is not on the PATH")
     try:
         prove_by_module(folder)
     except (ImportError, AttributeError, TypeError) as why:
-        print(f"tools/prove: this toolchain's rtlib is another one ({why}), so `rt all check` proves", file=sys.stderr, flush=True)
+        print(f"tools/proof prove: this toolchain's rtlib is another one ({why}), so `rt all check` proves", file=sys.stderr, flush=True)
         prove_by_commands(folder)
-
-
-main()

@@ -1,10 +1,9 @@
-#!/usr/bin/env python3
 """Tries wrong bodies, each of which the prover has to refuse, and keeps of each crate what was tried.
 
-    tools/wrong-bodies [CRATE..]          tries all edits of these crates; with no name, of each crate that --stale names
-    tools/wrong-bodies --each CRATE..     the same, each edit in a check of its own, as `rt must-fail` tries them
-    tools/wrong-bodies --stale            names each crate whose edits weren't tried since it changed; ends with 1 if there is one
-    tools/wrong-bodies --fewer CRATE..    notes that edits of these crates were taken away, and tries none; ends with 1 if it refuses one of them
+    tools/proof wrong-bodies [CRATE..]          tries all edits of these crates; with no name, of each crate that --stale names
+    tools/proof wrong-bodies --each CRATE..     the same, each edit in a check of its own, as `rt must-fail` tries them
+    tools/proof wrong-bodies --stale            names each crate whose edits weren't tried since it changed; ends with 1 if there is one
+    tools/proof wrong-bodies --fewer CRATE..    notes that edits of these crates were taken away, and tries none; ends with 1 if it refuses one of them
 
 A crate's edits are the files must-fail/*.edit, which the gate tries too, and wrong-bodies/*.edit. If all are refused, a sum of the crate's sources and edits,
 without the lines that are comments, is written to wrong-bodies/tried, which is committed. --fewer writes that sum anew only if nothing else changed since the commit that wrote it last: the sum was right
@@ -17,10 +16,7 @@ in the crate's out/, so a run that is stopped, or finds one that isn't refused, 
 """
 import contextlib
 import copy
-import functools
 import hashlib
-import importlib.machinery
-import importlib.util
 import json
 import os
 import re
@@ -31,7 +27,8 @@ import sys
 import tempfile
 import time
 
-TOP = os.path.dirname(os.path.dirname(os.path.abspath(__file__)))
+from common import CRATES, TOP, keep_sums, toolchain
+
 FOLDERS = ("must-fail", "wrong-bodies")
 FLAGS = ["--jobs", "1"]
 # what the toolchain calls an edit that is refused, by the prover or only at one of its limits; older kits say True
@@ -41,15 +38,6 @@ TRIED_AS = b"3"
 # what a line begins with that is a comment, by the file's kind
 COMMENT = {".rt": b"//", ".antt": b"--"}
 ONLY_NAMES = "only because a proof file names what the edit took away"
-
-
-def toolchain():
-    """The toolchain's own rt, whose meaning of edits and of a refusal is taken as it is."""
-    page = subprocess.run(["rt", "doc"], check=True, capture_output=True, text=True).stdout.strip()
-    loader = importlib.machinery.SourceFileLoader("rt", f"{os.path.dirname(page)}/bin/rt")
-    made = importlib.util.module_from_spec(importlib.util.spec_from_loader("rt", loader))
-    loader.exec_module(made)
-    return made
 
 
 def edits_of(folder):
@@ -85,7 +73,7 @@ def sum_of_files(folder, files):
 
 def stale():
     """The crates with edits that weren't tried since the crate changed."""
-    folders = [f"{TOP}/crates/{name}" for name in sorted(os.listdir(f"{TOP}/crates"))]
+    folders = [f"{CRATES}/{name}" for name in sorted(os.listdir(f"{CRATES}"))]
     return [os.path.basename(it) for it in folders if edits_of(it) and sum_of(it) != text_of(f"{it}/wrong-bodies/tried")]
 
 
@@ -95,7 +83,7 @@ def git(*words):
 
 def why_not_fewer(name):
     """What else changed in a crate than that edits were taken away, since the commit that wrote last what was tried; none if nothing did."""
-    folder = f"{TOP}/crates/{name}"
+    folder = f"{CRATES}/{name}"
     commit = git("log", "-1", "--format=%H", "--", f"crates/{name}/wrong-bodies/tried").decode().strip()
     if not commit:
         return "no edit of it was ever tried"
@@ -118,7 +106,7 @@ def note_fewer(names):
         if why:
             print(f"{name}: {why}")
         else:
-            write_tried(f"{TOP}/crates/{name}", sum_of(f"{TOP}/crates/{name}"))
+            write_tried(f"{CRATES}/{name}", sum_of(f"{CRATES}/{name}"))
     return [it for it in names if refused[it]]
 
 
@@ -331,8 +319,7 @@ def try_all(names, is_each):
     rt = toolchain()
     os.environ.pop(rt.rtlib.ALLOW_C, None)
     rt.rtlib.guarded()
-    # the sum of a crate is that of all below it too, each of which would be made anew for each crate above
-    rt.rtlib.Crate.stamp = functools.lru_cache(maxsize=None)(rt.rtlib.Crate.stamp)
+    keep_sums(rt.rtlib.Crate)
     os.chdir(TOP)
     crates = [it for it in rt.rtlib.crates_below(TOP) if it.name in names]
     below = {it.name: it for crate in crates for it in crate.below()}
@@ -355,12 +342,12 @@ def try_all(names, is_each):
     return 1 if failed else 0
 
 
-def main():
-    flags = [it for it in sys.argv[1:] if it.startswith("-")]
-    names = [it for it in sys.argv[1:] if not it.startswith("-")]
+def main(words):
+    flags = [it for it in words if it.startswith("-")]
+    names = [it for it in words if not it.startswith("-")]
     if flags == ["--fewer"] and names:
         sys.exit(1 if note_fewer(names) else 0)
-    unknown = [it for it in names if not edits_of(f"{TOP}/crates/{it}")]
+    unknown = [it for it in names if not edits_of(f"{CRATES}/{it}")]
     if unknown:
         sys.exit(f"no edits: {' '.join(unknown)}")
     if flags == ["--stale"] and not names:
@@ -372,5 +359,3 @@ def main():
     names = names or stale()
     sys.exit(try_all(names, bool(flags)) if names else 0)
 
-
-main()
