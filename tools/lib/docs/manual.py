@@ -1,19 +1,14 @@
-#!/usr/bin/env python3
 """Makes the man page and the completions of the program from what its `--help` prints.
 
-    tools/manual PROGRAM FOLDER      writes dfsolve.1, and the completions dfsolve.bash, _dfsolve (zsh) and dfsolve.fish, to the folder
-    tools/manual --check PROGRAM     makes them, and ends with 1 if one of them lacks a command or an option of the program, or its shell can't read it
+    tools/docs manual PROGRAM FOLDER      writes dfsolve.1, and the completions dfsolve.bash, _dfsolve (zsh) and dfsolve.fish, to the folder
 
 `./run install` puts them where a system looks for such files. They say nothing that the help doesn't say, so they need no upkeep.
+`tools/check manual` looks whether they are whole.
 """
 import os
 import re
-import shutil
 import subprocess
 import sys
-import tempfile
-
-SHELLS = {"dfsolve.bash": ["bash", "-n"], "_dfsolve": ["zsh", "-n"], "dfsolve.fish": ["fish", "--no-execute"]}
 
 
 class Item:
@@ -185,41 +180,7 @@ def write(program, folder):
             it.write(made(program))
 
 
-def bash_answers(folder, words):
-    """What bash completes these words to, of which the last is begun."""
-    script = f'. "{folder}/dfsolve.bash"; COMP_WORDS=({" ".join(map(quoted, words))}); COMP_CWORD={len(words) - 1}; _dfsolve; printf "%s\\n" "${{COMPREPLY[@]}}"'
-    return subprocess.run(["bash", "-c", script], check=True, capture_output=True, text=True).stdout.split()
-
-
-def faults(program):
-    whole, all_commands = commands(program)
-    found = []
-    with tempfile.TemporaryDirectory() as folder:
-        write(program, folder)
-        for name, words in SHELLS.items():
-            if shutil.which(words[0]) and subprocess.run([*words, f"{folder}/{name}"], check=False).returncode != 0:
-                found.append(f"{name} can't be read by {words[0]}")
-        texts = {name: open(f"{folder}/{name}", encoding="utf-8").read().replace("\\-", "-") for name in MADE}
-        for it in all_commands:
-            wanted = [it.name, *(name.lstrip("-") for item in it.options for name in item.names if name.startswith("--"))]
-            found += [f"{file} lacks {word} of {it.name}" for file, text in texts.items() for word in wanted if word not in text]
-            if bash_answers(folder, ["dfsolve", it.name]) != [it.name]:
-                found.append(f"bash doesn't complete {it.name}")
-            options = sorted(name for item in it.options for name in item.names if name.startswith("--"))
-            if sorted(bash_answers(folder, ["dfsolve", it.name, "--"])) != options:
-                found.append(f"bash doesn't complete the options of {it.name}")
-    return found
-
-
-def main():
-    words = sys.argv[1:]
-    if len(words) == 2 and words[0] == "--check":
-        found = faults(words[1])
-        print("\n".join(found) if found else "the man page and three completions have each command and each option")
-        sys.exit(1 if found else 0)
-    if len(words) != 2 or words[0].startswith("-"):
+def main(words):
+    if len(words) != 2:
         sys.exit(__doc__)
     write(*words)
-
-
-main()
