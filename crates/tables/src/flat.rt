@@ -1,6 +1,6 @@
 // The second body of a tree: one list of rows in path order, one for each path at which something stands, which shares nothing with another list.
 //
-// The lists of changes that `tools/tree-lists` makes, those of the table `trees` whose names begin with `list_`, are answered by this body too, and
+// The lists of changes that `tools/check lists` makes, those of the table `trees` whose names begin with `list_`, are answered by this body too, and
 // both have to tell the same: which changes fail, with which cause, and a sum of all trees. Its rules are those of `put`, `remove`, `copied` and
 // `over`, each read on whole lists. A name in these lists is of letters and digits, which come after `/`, so texts have the order of paths.
 

@@ -10,7 +10,7 @@
 // has, `N sums` a number for all trees from N on together, and `N run SCRIPT`, `N mounted SCRIPT` and `N idle SCRIPT` what a command comes
 // to on the tree N.
 //
-// Cases whose names begin with `list_` are made by `tools/tree-lists`, which answers them by maps from paths to entries that share nothing.
+// Cases whose names begin with `list_` are made by `tools/check lists`, which answers them by maps from paths to entries that share nothing.
 // The flat map of `flat` answers them too, and a list of which it tells something else says so.
 
 use crate::changing::change;

@@ -3,7 +3,7 @@
 // by an executor that has memory. The answer is the name and what each came to: a tree's entries, or a failure's line and cause, or want of memory; and
 // that a lease is out after it, if one is.
 //
-// `tools/refuse-allocations` runs this table with each of its allocations refused in turn.
+// `tools/check allocations` runs this table with each of its allocations refused in turn.
 
 ghost use Rattle.std.specs.Prelude.{◌≡◌, ◌<◌, ◌≤◌, []};
 ghost use Rattle.build.specs.Lowerable.{IsLowerable};

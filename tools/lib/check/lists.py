@@ -1,15 +1,15 @@
-#!/usr/bin/env python3
-"""Makes the lists of changes of the table `trees` of the program `tables`, and says what they come to.
+"""Looks whether the table `trees` of the program `tables` has the lists of changes that are made here, with the answers of a plain map.
 
-    tools/tree-lists            writes the lists in crates/tables/stdin anew, and their answers in stdout
-    tools/tree-lists --check    tells whether both files have them
+    tools/check lists             tells whether crates/tables/stdin has the lists, and stdout their answers; ends with 1 if one has others
+    tools/check lists --write     writes both anew
 
 A tree is here one map from paths to entries, which shares nothing with another one: the trees of the program share folders, and a change to
 one must be seen in no other. Each change is made to any of the trees before, and copies from any of them; at the end all of them are summed up.
 """
-import os
 import re
 import sys
+
+from common import CRATES
 
 LISTS = 1000
 CHANGES = 8
@@ -167,22 +167,26 @@ def make_list(seed):
     return f"list_{seed} | {' | '.join(steps + ['0 sums'])}\n", f"list_{seed}: {'; '.join(told)}\n"
 
 
-def main():
-    folder = os.path.join(os.path.dirname(os.path.abspath(__file__)), "..", "crates", "tables")
+def with_lists(before, lines):
+    """The text of a file with these lists in place of its own, which stand one after another."""
+    rows = before.splitlines(True)
+    places = [place for place, line in enumerate(rows) if re.match(r"list_\d", line)]
+    rows[places[0] : places[-1] + 1] = lines
+    return "".join(rows)
+
+
+def main(words):
+    if words not in ([], ["--write"]):
+        sys.exit(__doc__)
+    others = 0
     for name, lines in zip(["stdin", "stdout"], zip(*map(make_list, range(LISTS)))):
-        file = os.path.join(folder, name)
-        with open(file, encoding="utf-8") as old:
+        with open(f"{CRATES}/tables/{name}", encoding="utf-8", newline="") as old:
             before = old.read()
-        # (the lists stand one after another)
-        rows = before.splitlines(True)
-        places = [place for place, line in enumerate(rows) if re.match(r"list_\d", line)]
-        rows[places[0] : places[-1] + 1] = lines
-        after = "".join(rows)
-        if sys.argv[1:] == ["--check"]:
-            print(f"{name}: {'as it was' if after == before else 'another one'}")
-            continue
-        with open(file, "w", encoding="utf-8") as new:
-            new.write(after)
-
-
-main()
+        after = with_lists(before, lines)
+        if words:
+            with open(f"{CRATES}/tables/{name}", "w", encoding="utf-8", newline="") as new:
+                new.write(after)
+        else:
+            others += after != before
+            print(f"crates/tables/{name} has {'the lists' if after == before else 'other lists: tools/check lists --write makes them anew'}")
+    return 1 if others else 0

@@ -1,11 +1,12 @@
 #!/usr/bin/env bash
-# Runs the program on each row of the table of exit statuses in docs/FORMATS.md, and compares its status, standard output and standard
-# error with what the table says. Want of memory has a script of its own, tools/refuse-allocations. It takes a second.
+# Compares the program's status, standard output and standard error with the table of exit statuses in docs/FORMATS.md.
 #
-#     tools/statuses             runs the program that `./run --proved` makes
-#     tools/statuses PROGRAM     runs one that was made before
+#     tools/check statuses             runs the program that `./run --proved` makes
+#     tools/check statuses PROGRAM     runs one that was made before
+#
+# Each row of the table is a run. Want of memory has a check of its own, `allocations`. It takes a second.
 set -euo pipefail
-here=$(cd "$(dirname "$0")/.." && pwd)
+here=$(cd "$(dirname "$0")/../../.." && pwd)
 work=$(mktemp -d)
 trap 'rm -rf "$work"' EXIT
 rows=0

@@ -1,8 +1,7 @@
-#!/usr/bin/env python3
-"""Refuses every allocation of a build in turn, and every start of a thread.
+"""Refuses every allocation of a build in turn, and every start of a thread: each gives the right answer or wants memory.
 
-    tools/refuse-allocations                       of each row of the table `stores`: its bundle's build, and the row itself; and three builds with one memo
-    tools/refuse-allocations WORKERS [BUNDLE]      the build of this bundle alone, or of the first example, by so many workers
+    tools/check allocations                       of each row of the table `stores`: its bundle's build, and the row itself; and three builds with one memo
+    tools/check allocations WORKERS [BUNDLE]      the build of this bundle alone, or of the first example, by so many workers
 
 A build with a refused allocation has to give the right answer, or `out of memory` with status 3 and nothing on standard output. A row of `stores`
 solves a plan twice over one store and with one memo: after want of memory no lease may be out, and the second time has to give the answer. Of three
@@ -17,6 +16,7 @@ for, and what a refusal hits differs too.
 import argparse
 import collections
 import concurrent.futures
+import itertools
 import os
 import shlex
 import shutil
@@ -24,8 +24,10 @@ import subprocess
 import sys
 import tempfile
 
-TOP = os.path.dirname(os.path.dirname(os.path.abspath(__file__)))
-CRATES = os.path.join(TOP, "crates")
+import bundles
+from common import CRATES, LIB, TOP, kit
+from runs import answered
+
 PROGRAMS = ["dfsolve/out/dfsolve", "dfsolve/out/proved/dfsolve", "dfsolve/out/unproved/dfsolve"]
 TABLES = ["tables/out/tables"]
 MEMORY = b"out of memory"
@@ -47,7 +49,7 @@ class Case:
     def run(self, folder, refused=0, thread="0"):
         with tempfile.NamedTemporaryFile(dir=folder) as count:
             env = {"LD_PRELOAD": f"{folder}/refuse.so", "REFUSE": str(refused), "REFUSE_THREAD": thread, "COUNT": count.name}
-            ran = subprocess.run(self.words, input=self.given, stdout=subprocess.PIPE, stderr=subprocess.PIPE, env=env, timeout=60, check=False)
+            ran = answered(self.words[0], self.words[1:], self.given, env=env, timeout=60)
             numbers = count.read().split()
         return (ran.returncode, ran.stdout, ran.stderr), [int(it) for it in numbers]
 
@@ -141,12 +143,8 @@ def shown(row):
 
 
 def table(name, file):
-    """The lines of a table."""
-    with open(f"{CRATES}/tables/{file}", "rb") as it:
-        lines = it.read().split(b"\n")
-    begin = lines.index(f"== {name}".encode()) + 1
-    ends = [at for at in range(begin, len(lines)) if lines[at].startswith(b"== ") or not lines[at]]
-    return lines[begin : ends[0]]
+    """The lines of a table, up to an empty one."""
+    return [line.encode() for line in itertools.takewhile(bool, bundles.tables(file)[name])]
 
 
 def cases(program, tables):
@@ -184,15 +182,14 @@ def compiler():
     named = shlex.split(os.environ.get("CC", "cc"))
     if shutil.which(named[0]):
         return named
-    rt = shutil.which("rt")
-    clang = os.path.join(os.path.dirname(os.path.dirname(os.path.realpath(rt or "/"))), "toolchain/bin/clang")
-    if not os.access(clang, os.X_OK):
+    clang = f"{kit()}/toolchain/bin/clang" if shutil.which("rt") else None
+    if not clang or not os.access(clang, os.X_OK):
         sys.exit(f"there is no C compiler: neither {named[0]} nor the toolchain's clang")
     return [clang, "-fuse-ld=lld"]
 
 
 def compiled(folder):
-    words = ["-O1", "-shared", "-fPIC", "-nostdlib", "-o", f"{folder}/refuse.so", f"{TOP}/tools/refuse_allocations.c"]
+    words = ["-O1", "-shared", "-fPIC", "-nostdlib", "-o", f"{folder}/refuse.so", f"{LIB}/check/refuse.c"]
     subprocess.run([*compiler(), *words], check=True)
 
 
@@ -208,14 +205,14 @@ def tried(case, folder, pool):
     return most + len(threads)
 
 
-def main():
-    words = argparse.ArgumentParser(description=__doc__, formatter_class=argparse.RawDescriptionHelpFormatter)
-    words.add_argument("workers", nargs="?", type=int)
-    words.add_argument("bundle", nargs="?", default=f"{TOP}/examples/first.json")
-    words.add_argument("--program")
-    words.add_argument("--tables")
-    words.add_argument("--jobs", type=int, default=1)
-    options = words.parse_args()
+def main(words):
+    parser = argparse.ArgumentParser(prog="tools/check allocations")
+    parser.add_argument("workers", nargs="?", type=int)
+    parser.add_argument("bundle", nargs="?", default=f"{TOP}/examples/first.json")
+    parser.add_argument("--program")
+    parser.add_argument("--tables")
+    parser.add_argument("--jobs", type=int, default=1)
+    options = parser.parse_args(words)
     program = found(options.program, PROGRAMS, "dfsolve")
     if options.workers:
         with open(options.bundle, "rb") as it:
@@ -232,6 +229,3 @@ def main():
         except Wrong as why:
             sys.exit(f"wrong: {why}")
     print(f"{runs} runs, each as it should be")
-
-
-main()

@@ -1,30 +1,24 @@
-#!/usr/bin/env python3
-"""Whether docs/EXAMPLES.md says what the program answers.
+"""Compares what the program answers to the examples with the tables of docs/EXAMPLES.md.
 
-    tools/examples             packs, draws and builds each folder and bundle of its tables by `./run`, and prints what differs
-    tools/examples PROGRAM     the same by a program that was made before
+    tools/check examples             packs, draws and builds each folder and bundle of its tables by `./run`, and prints what differs
+    tools/check examples PROGRAM     the same by a program that was made before
 """
 import json
 import os
 import re
-import subprocess
-import sys
 
-TOP = os.path.dirname(os.path.dirname(os.path.abspath(__file__)))
-PROGRAM = os.path.abspath(sys.argv[1]) if len(sys.argv) > 1 else os.path.join(TOP, "run")
+from common import TOP
+from runs import answered
+
 OPTIONS = re.compile(r"packed with `([^`]+)`")
 LINKED = re.compile(r"a merge of (\w+) inputs")
 NUMBERS = {"two": 2, "three": 3, "four": 4, "five": 5}
 
 
-def answer(words, given=b"", folder=TOP):
-    return subprocess.run([PROGRAM, *words], input=given, stdout=subprocess.PIPE, check=False, cwd=folder).stdout
-
-
-def packed(folder, said):
+def packed(program, folder, said):
     """The bundle of a folder, made in it with the options that its table's cell says."""
     options = " ".join(OPTIONS.findall(said)).split()
-    return answer(["pack", ".", *options], folder=folder)
+    return answered(program, ["pack", ".", *options], cwd=folder, stderr=None).stdout
 
 
 def rows():
@@ -48,14 +42,19 @@ def built(text):
     return f"*failed*, line {found['line']}, `{found['cause']}`" if found["result"] == "failed" else f"*{found['result']}*"
 
 
-def main():
+def main(words):
+    program = os.path.abspath(words[0]) if words else f"{TOP}/run"
     wrong = 0
+
+    def answer(command, bundle):
+        return answered(program, [command], bundle, stderr=None).stdout
+
     for name, cells in rows():
         path = os.path.join(TOP, "examples", name)
-        bundle = open(path, "rb").read() if name.endswith(".json") else packed(path, cells[0])
-        checks = [(built(answer(["build"], bundle)), cells[-1])]
+        bundle = open(path, "rb").read() if name.endswith(".json") else packed(program, path, cells[0])
+        checks = [(built(answer("build", bundle)), cells[-1])]
         if not name.endswith(".json"):
-            count, merges = drawn(answer(["graph"], bundle))
+            count, merges = drawn(answer("graph", bundle))
             named = [NUMBERS[word] for word in LINKED.findall(cells[1])]
             checks.append((f"{count} operations", cells[1]))
             checks.append((str(merges), str(named)))
@@ -65,6 +64,3 @@ def main():
                 print(f"{name}: the program answers {found}, and the table says {said}")
     print("no difference" if wrong == 0 else f"{wrong} differences")
     return 1 if wrong else 0
-
-
-sys.exit(main())
