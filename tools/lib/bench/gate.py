@@ -1,22 +1,22 @@
-#!/usr/bin/env python3
-"""What the gate costs, crate by crate.
+"""Runs `rt ci` and prints how many processor minutes each crate takes.
 
-    tools/minutes [--anew] [FILE]     runs `rt ci` at the top of the repository, looks twice a second at the processes that it starts,
-                                      and prints a table of processor minutes: each crate's library, its tests, its must-fail edits,
-                                      and all the rest (compilers, runs). The gate's own words go to FILE (standard error where there
-                                      is none). With --anew, `rt ci --anew` proves all, also what the toolchain keeps on this machine.
+    tools/bench gate [--anew] [FILE]     runs `rt ci` at the top of the repository, looks twice a second at the processes that it starts,
+                                         and prints a table of processor minutes: each crate's library, its tests, its must-fail edits,
+                                         and all the rest (compilers, runs). The gate's own words go to FILE (standard error where there
+                                         is none). With --anew, `rt ci --anew` proves all, also what the toolchain keeps on this machine.
 
-Run it with nothing beside it: processor minutes grow with load too. The table is what docs/MEASURED.md has. It ends with the
-gate's own status. Stopped by SIGINT or SIGTERM, it stops the gate and prints the table so far. It reads /proc, so it needs Linux.
+Processor minutes grow with load too. It ends with the gate's own status. Stopped by SIGINT or SIGTERM, it stops the gate and prints the
+table so far. It reads /proc, so it needs Linux.
 """
 import os
-import re
 import signal
 import subprocess
 import sys
 import time
 
-TOP = os.path.dirname(os.path.dirname(os.path.abspath(__file__)))
+from common import TOP
+from proof.lanes import lanes
+
 TICKS = os.sysconf("SC_CLK_TCK")
 KINDS = ["library", "tests", "edits"]
 
@@ -56,13 +56,12 @@ def kind_of(words, folder):
     return name, "tests" if "--test" in words else "library"
 
 
-def main():
-    flags = [it for it in sys.argv[1:] if it == "--anew"]
-    names = [it for it in sys.argv[1:] if it != "--anew"]
+def main(words):
+    flags = [it for it in words if it == "--anew"]
+    names = [it for it in words if it != "--anew"]
     log = open(names[0], "w", encoding="utf-8") if names else sys.stderr
     # as many checks side by side as in the gate
-    lanes = subprocess.run([os.path.join(TOP, "tools/lanes")], check=True, capture_output=True, text=True).stdout.strip()
-    os.environ.setdefault("RT_JOBS", lanes)
+    os.environ.setdefault("RT_JOBS", str(lanes()))
     began = time.time()
     gate = subprocess.Popen(["rt", "ci", *flags], cwd=TOP, stdin=subprocess.DEVNULL, stdout=log, stderr=subprocess.STDOUT)
     for it in (signal.SIGINT, signal.SIGTERM):
@@ -78,9 +77,9 @@ def main():
         for pid in below(gate.pid, found):
             if pid not in found:
                 continue
-            start, parent, seconds, words, folder = found[pid]
+            start, parent, seconds, called, folder = found[pid]
             # (a process that is ending gives its memory back before it leaves its folder: it has no words then, and keeps the name that it had)
-            what = kind_of(words, folder) or crate_of.get((pid, start)) or crate_of.get((parent, found.get(parent, ("",))[0]))
+            what = kind_of(called, folder) or crate_of.get((pid, start)) or crate_of.get((parent, found.get(parent, ("",))[0]))
             crate_of[pid, start] = what
             # (of a process that has ended, and isn't waited for yet, the system tells the time of one thread alone)
             spent[pid, start] = (what, max(seconds, spent.get((pid, start), (what, 0.0))[1]))
@@ -102,6 +101,3 @@ def main():
     used = os.times()
     print(f"\n{(time.time() - began) / 60:.0f} minutes by the clock; {(used.children_user + used.children_system) / 60:.1f} processor minutes by the system's own count")
     return gate.returncode
-
-
-sys.exit(main())

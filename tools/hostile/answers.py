@@ -1,7 +1,8 @@
 """Whether what the program printed is an answer of docs/FORMATS.md, and its status fits. Each `check_` raises `Offence`."""
-import hashlib
 import json
 import re
+
+from bundles import address_of, compact
 
 CAUSE = re.compile(r"F[1-5]|exit ([1-9]\d{0,2})")
 CODE = re.compile(r"R0[1-9]|R1\d|R2[01]")
@@ -27,7 +28,7 @@ def answer_line(printed):
     need(printed.endswith(b"\n") and printed.count(b"\n") == 1, "standard output is not one line")
     try:
         value = json.loads(printed)
-        same = json.dumps(value, sort_keys=True, separators=(",", ":"), ensure_ascii=False).encode()
+        same = compact(value).encode()
     except (ValueError, RecursionError) as why:
         raise Offence(f"standard output is no JSON: {why}") from why
     need(same == printed[:-1], "the line is not compact JSON with its keys in order")
@@ -190,11 +191,6 @@ def check_lines(lines):
     """That an operation of a file's graph comes from lines, in ascending order, each once; a file has no more bytes than the last one allows."""
     need(isinstance(lines, list) and lines and all(type(line) is int for line in lines), "an operation comes from no line")
     need(lines == sorted(set(lines)) and lines[0] >= 1 and lines[-1] <= 1_048_576, "an operation's lines are none")
-
-
-def address_of(operation):
-    text = json.dumps(operation, sort_keys=True, separators=(",", ":"), ensure_ascii=False)
-    return "sha256:" + hashlib.sha256(text.encode()).hexdigest()
 
 
 def check_operation(operation):

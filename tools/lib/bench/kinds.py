@@ -1,39 +1,29 @@
-#!/usr/bin/env python3
-"""Times the built program on bundles that are made here, each kind at two sizes, and prints a table. It fails on nothing.
+"""Times the program on bundles of several kinds, each at two sizes.
 
-    tools/timings [--workers N,..] [KIND..]      all kinds where none is named; `tools/timings --kinds` lists them
+    tools/bench kinds [--program P] [--workers N,..] [KIND..]      all kinds where none is named; `tools/bench kinds --kinds` lists them
 
-Each kind is built with 1 and with 4 workers where no numbers are given; those that are drawn have no workers. The program is built by
-`./run --proved` first. A row has the size, the workers, the bundle's bytes, the answer's, wall-clock and processor seconds, the most memory, and the
+Each kind is built with 1 and with 4 workers where no numbers are given; those that are drawn have no workers. P is what `./run --proved` makes
+if it isn't given. A row has the size, the workers, the bundle's bytes, the answer's, wall-clock and processor seconds, the most memory, and the
 exit status. Below the two sizes stands how much dearer the larger one is for as much work, by the processor's seconds.
 """
+import argparse
 import json
-import os
-import resource
 import subprocess
-import sys
 import tempfile
-import time
 
-TOP = os.path.dirname(os.path.dirname(os.path.abspath(__file__)))
-PROGRAM = os.path.join(TOP, "crates/dfsolve/out/proved/dfsolve")
+from bundles import PLAIN, in_order
+from common import PROVED
+from runs import file_of, limits, timed
+
 MOST_MEMORY = 12 << 30
 
 
 def bundle(dockerfile, **more):
-    return json.dumps({"dockerfile": {"text": dockerfile}, **more}, separators=(",", ":"))
+    return json.dumps({"dockerfile": {"text": dockerfile}, **more}, separators=(",", ":")).encode()
 
 
 def file_at(path, text="x"):
     return {"path": path, "text": text}
-
-
-def in_order(tree):
-    """The entries as a walk through their folders tells them."""
-    return sorted(tree, key=lambda entry: entry["path"].encode().split(b"/"))
-
-
-PLAIN = {"architecture": "amd64", "os": "linux", "rootfs": {"diff_ids": [], "type": "layers"}}
 
 
 def stages(count):
@@ -249,66 +239,37 @@ KINDS = {
 }
 
 
-def bundle_file(make, size):
-    """A file with a kind's bundle of this size. Another process makes it, since the most memory of a run counts that of the process that starts it."""
-    given = tempfile.TemporaryFile()
-    maker = os.fork()
-    if maker == 0:
-        status = 1
-        try:
-            given.write(make(size).encode())
-            given.flush()
-            status = 0
-        finally:
-            os._exit(status)
-    if os.waitpid(maker, 0)[1] != 0:
-        sys.exit("no bundle was made")
-    return given
-
-
-def measure(given, words):
-    """Wall-clock seconds, processor seconds, MiB, exit status and bytes of the answer of one run on a bundle's file."""
-    with tempfile.TemporaryFile() as answer:
-        given.seek(0)
-        limit = lambda: resource.setrlimit(resource.RLIMIT_AS, (MOST_MEMORY, MOST_MEMORY))
-        before = time.time()
-        run = subprocess.Popen([PROGRAM, *words], stdin=given, stdout=answer, stderr=subprocess.DEVNULL, preexec_fn=limit)
-        _, status, used = os.wait4(run.pid, 0)
-        wall = time.time() - before
-        return wall, used.ru_utime + used.ru_stime, used.ru_maxrss / 1024, os.waitstatus_to_exitcode(status), answer.seek(0, 2)
-
-
-def time_kind(name, workers):
+def time_kind(program, name, workers):
     """Prints the rows of a kind, built by so many workers, or drawn where there is no number."""
     make, *sizes = KINDS[name]
     words = ["build", "--workers", workers] if workers else ["graph"]
     seconds = []
     for size in sizes:
-        with bundle_file(make, size) as given:
-            wall, processor, memory, status, answer = measure(given, words)
-            length = given.seek(0, 2)
-        seconds.append(processor)
-        print(
-            f"| {name} | {size} | {workers or 'graph'} | {length} | {answer} | {wall:.3f} | {processor:.3f} | {memory:.0f} | {status} |",
-            flush=True,
-        )
+        with file_of(make, size) as given, tempfile.TemporaryFile() as answer:
+            took = timed([program, *words], given, answer, stderr=subprocess.DEVNULL, preexec_fn=limits(MOST_MEMORY))
+            ends = f"{given.seek(0, 2)} | {answer.seek(0, 2)}"
+        seconds.append(took.processors)
+        row = f"{took.clock:.3f} | {took.processors:.3f} | {took.memory:.0f} | {took.status}"
+        print(f"| {name} | {size} | {workers or 'graph'} | {ends} | {row} |", flush=True)
     print(f"| | | | | | | {seconds[1] / max(seconds[0], 0.001):.1f} for {sizes[1] / sizes[0]:.1f} | | |", flush=True)
 
 
-def main():
-    words = sys.argv[1:]
-    if words == ["--kinds"]:
-        print("\n".join(f"{name:15} {make.__doc__}" for name, (make, _, _) in KINDS.items()))
-        return
-    workers = ["1", "4"]
-    if words[:1] == ["--workers"]:
-        workers, words = words[1].split(","), words[2:]
+def print_table(program, workers, kinds):
     print("| Kind | Size | Workers | Bundle, bytes | Answer, bytes | Seconds | Processor | MiB | Status |")
     print("|---|---|---|---|---|---|---|---|---|")
-    for name in words or list(KINDS):
+    for name in kinds:
         for number in [""] if KINDS[name][0] is drawn else workers:
-            time_kind(name, number)
+            time_kind(program, name, number)
 
 
-if __name__ == "__main__":
-    main()
+def main(words):
+    parser = argparse.ArgumentParser(prog="tools/bench kinds")
+    parser.add_argument("names", nargs="*", choices=[[], *KINDS], metavar="KIND")
+    parser.add_argument("--kinds", action="store_true")
+    parser.add_argument("--program", default=PROVED)
+    parser.add_argument("--workers", default="1,4")
+    options = parser.parse_args(words)
+    if options.kinds:
+        print("\n".join(f"{name:15} {make.__doc__}" for name, (make, _, _) in KINDS.items()))
+        return
+    print_table(options.program, options.workers.split(","), options.names or KINDS)

@@ -1,13 +1,20 @@
-"""Small files that cost much, for `tools/hostile --costs`: each kind at two sizes, with what it costs and how that grows."""
+"""Measures small files that cost much, of kinds that nobody means: what each costs at two sizes, and how that grows.
+
+    tools/bench costs [--program P] [--largest] [--seconds N] [--memory M] [KIND..]      all kinds where none is named
+
+With --largest each kind is tried at a size near the limits too. A run has ten times so many processor seconds (20) and M MiB (4,096).
+P is what `./run --proved` makes if it isn't given. `tools/hostile/run` tries inputs that nobody means, and judges the answers.
+"""
+import argparse
 import itertools
-import os
-import resource
 import subprocess
 import sys
 import tempfile
 import time
 
-from hostile_inputs import PLAIN, Spelled, bundle_of, lines_of, nested
+from bundles import PLAIN, Spelled, bundle_of, lines_of, nested
+from common import PROVED
+from runs import file_of, limits, timed
 
 # the hasher of the toolchain's tables, in which names stood once: its first state, and what it multiplies by
 STATE = 0x243F6A8885A308D3
@@ -306,59 +313,36 @@ LARGEST = {
 }
 
 
-def bundle_file(make, size):
-    """A file with a kind's bundle. Another process makes it, since the most memory of a run counts that of the process that starts it."""
-    given = tempfile.TemporaryFile()
-    maker = os.fork()
-    if maker == 0:
-        status = 1
-        try:
-            given.write(make(size))
-            given.flush()
-            status = 0
-        finally:
-            os._exit(status)
-    if os.waitpid(maker, 0)[1] != 0:
-        sys.exit("no bundle was made")
-    return given
-
-
-def measure(options, given, words):
-    """Processor seconds, MiB, how it ended and bytes of the answer of one run on a bundle's file."""
-
-    def limit():
-        resource.setrlimit(resource.RLIMIT_AS, (options.memory << 20,) * 2)
-        resource.setrlimit(resource.RLIMIT_CPU, (options.seconds * 10,) * 2)
-
-    with tempfile.TemporaryFile() as answer:
-        given.seek(0)
-        run = subprocess.Popen([options.program, *words], stdin=given, stdout=answer, stderr=subprocess.DEVNULL, preexec_fn=limit)
-        _, status, used = os.wait4(run.pid, 0)
-        return used.ru_utime + used.ru_stime, used.ru_maxrss / 1024, os.waitstatus_to_exitcode(status), answer.seek(0, 2)
-
-
 def print_kind(options, make, sizes, words):
     """The rows of a kind; from the second on they say how many times as much it has and takes."""
     before = None
     name = make.__name__ + (", drawn" if words == ["graph"] else "")
+    limit = limits(options.memory << 20, options.seconds * 10)
     for size in sizes:
-        with bundle_file(make, size) as given:
-            seconds, memory, status, answer = measure(options, given, words)
-            now = [given.seek(0, 2), answer, max(seconds, 0.001), memory]
+        with file_of(make, size) as given, tempfile.TemporaryFile() as answer:
+            took = timed([options.program, *words], given, answer, stderr=subprocess.DEVNULL, preexec_fn=limit)
+            now = [given.seek(0, 2), answer.seek(0, 2), max(took.processors, 0.001), took.memory]
         grown = " | ".join(f"{its / max(was, 0.001):.1f}" for its, was in zip(now, before)) if before else "| | |"
-        print(f"| `{name}` | {size} | {now[0]} | {answer} | {seconds:.2f} | {memory:.0f} | {status} | {grown} |", flush=True)
+        print(f"| `{name}` | {size} | {now[0]} | {now[1]} | {took.processors:.2f} | {took.memory:.0f} | {took.status} | {grown} |", flush=True)
         before = now
 
 
-def print_table(options):
+def main(words):
+    parser = argparse.ArgumentParser(prog="tools/bench costs")
+    parser.add_argument("kinds", nargs="*", choices=[[], *(make.__name__ for make in KINDS)], metavar="KIND")
+    parser.add_argument("--largest", action="store_true")
+    parser.add_argument("--program", default=PROVED)
+    parser.add_argument("--seconds", type=int, default=20)
+    parser.add_argument("--memory", type=int, default=4096)
+    options = parser.parse_args(words)
+    kinds = {make: sizes for make, sizes in KINDS.items() if not options.kinds or make.__name__ in options.kinds}
     print("| Kind | Size | Bytes in | Answer, bytes | Processor s | MiB | Status | Times the bytes | the answer | the seconds | the MiB |")
     print("|---|---|---|---|---|---|---|---|---|---|---|")
-    for make, sizes in KINDS.items():
-        if not options.kinds or make.__name__ in options.kinds:
-            sizes = (*sizes, LARGEST[make]) if options.largest and LARGEST[make] not in sizes else sizes
-            if make is not values_drawn:
-                print_kind(options, make, sizes, ["build", "--workers", "1"])
-            if make in DRAWN:
-                print_kind(options, make, sizes, ["graph"])
-    print("\n" + "\n".join(f"- `{make.__name__}`: {make.__doc__}" for make in KINDS if not options.kinds or make.__name__ in options.kinds))
+    for make, sizes in kinds.items():
+        sizes = (*sizes, LARGEST[make]) if options.largest and LARGEST[make] not in sizes else sizes
+        if make is not values_drawn:
+            print_kind(options, make, sizes, ["build", "--workers", "1"])
+        if make in DRAWN:
+            print_kind(options, make, sizes, ["graph"])
+    print("\n" + "\n".join(f"- `{make.__name__}`: {make.__doc__}" for make in kinds))
     print(time.strftime("\nmade on %Y-%m-%d at %H:%M"), file=sys.stderr)

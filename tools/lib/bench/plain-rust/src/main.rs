@@ -1,8 +1,8 @@
-//! How fast a plain Rust program does the work of the two largest kinds of `tools/timings`, for `docs/MEASURED.md` to compare with.
+//! How fast a plain Rust program does the work of the two largest kinds of `tools/bench kinds`, for `docs/MEASURED.md` to compare with.
 //!
 //! It answers the kinds `huge_image`, `walked_image`, `ignored` and `walked` byte for byte as `dfsolve` does, and knows nothing beyond what
 //! these ask: it refuses nothing, runs `put` alone, knows the five forms of line that their ignore file has, and changes one tree in
-//! place, so no tree is shared, and no instruction has a result of its own. Nothing of this repository uses it.
+//! place, so no tree is shared, and no instruction has a result of its own. `tools/bench plain` times it.
 //!
 //!     cargo run --release < bundle.json
 use serde::Deserialize;

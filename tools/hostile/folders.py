@@ -1,10 +1,12 @@
 """Folders for `pack` that tools/hostile makes, the words that they are packed by, and what comes of it by docs/FORMATS.md."""
+import json
 import os
 import random
 import shutil
 import stat
 
-import hostile_inputs as inputs
+import inputs
+from bundles import compact, in_order
 
 NAMES = [b"a", b"b", b"d", b"f.md", b".hidden", b"a b", b"*", b"[x]", b"\\", b"-x", b"#", b"!n", b"\xc3\xa9", b"\xe6\x97\xa5", b"\n", b"\t", b"\x01", b'"', b"$a", b"Dockerfile", b"Other", b"n" * 255,
          b"~", b"\x7f", b"\xef\xbb\xbf", b"\xc2\xa0", b"\xff", b"\xed\xa0\x80"]
@@ -133,12 +135,12 @@ class Folder:
         path = self.own_ignore_file()
         if path is None:
             return bundle
-        value = inputs.json.loads(bundle)
+        value = json.loads(bundle)
         with open(path, "rb") as it:
             own = {"gid": 0, "hex": it.read().hex(), "mode": "0644", "path": "/.dockerignore", "uid": 0}
         rest = [entry for entry in value["context"] if entry["path"] != "/.dockerignore"]
-        value["context"] = [rest[0], *sorted([own, *rest[1:]], key=lambda entry: entry["path"].encode().split(b"/"))]
-        return inputs.json.dumps(value, sort_keys=True, separators=(",", ":"), ensure_ascii=False).encode() + b"\n"
+        value["context"] = [rest[0], *in_order([own, *rest[1:]])]
+        return compact(value).encode() + b"\n"
 
 
 def odd_word(dice):

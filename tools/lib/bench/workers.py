@@ -1,12 +1,11 @@
-#!/usr/bin/env python3
-"""Times solves of plans whose commands only compute, by several numbers of workers, and prints a table.
+"""Times solves of plans whose commands only compute, by several numbers of workers.
 
-    tools/overlap [PLAN,WORKERS,..]..      as in `tools/overlap 'side 1000 1000,1,2,4,8'`; the rows of `PLANS` where none is named
+    tools/bench workers [PLAN,WORKERS,..]..      as in `tools/bench workers 'side 1000 1000,1,2,4,8'`; the rows of `PLANS` where none is named
 
 A plan is a shape, how many commands it has, and for how many microseconds each of them computes. The program that solves them stands in
-`tools/overlap.txt`, with the shapes: in a crate the gate would prove it each time. It is proved and built here, in a copy of the crates beside the repository,
-which takes minutes; prove those that it stands on first (`tools/prove workers`, `tools/prove samples`). Run it with nothing beside it, on as many
-processors as workers are to run at a time.
+`workers.txt` beside this file, with the shapes: in a crate the gate would prove it each time, and the toolchain lets no `.rt` file stand outside
+of crates. It is proved and built here, in a copy of the crates beside the repository, which takes minutes; prove those that it stands on first
+(`tools/proof prove workers`, `tools/proof prove samples`). Run it on as many processors as workers are to run at a time.
 """
 import os
 import shutil
@@ -14,25 +13,10 @@ import subprocess
 import sys
 import tempfile
 
-TOP = os.path.dirname(os.path.dirname(os.path.abspath(__file__)))
+from common import CRATES, LIB, TOP, below, crates
+
 LIBRARIES = "plain trees runs executor cachemounts llb plans memo samples solver workers anyhow".split()
 PLANS = ["side 1000 1000,1,2,4,8", "chain 1000 1000,1,64", "chain 1 2000000,1,64", "side 1000 0,1,4,64", "locked 1000 1000,1,4,64"]
-
-
-def crates():
-    """The libraries of each crate, as crates.txt has them."""
-    with open(f"{TOP}/crates.txt", encoding="utf-8") as file:
-        lines = [line.split(":") for line in file if ":" in line and not line.startswith("#")]
-    return {name.split()[0]: libraries.split() for name, libraries in lines}
-
-
-def below(libraries, found, done):
-    """The repository's crates that these libraries are and stand on, lowest first, put behind those that are done."""
-    for name in libraries:
-        if name in found and name not in done:
-            below(found[name], found, done)
-            done.append(name)
-    return done
 
 
 def make_program(folder):
@@ -40,21 +24,21 @@ def make_program(folder):
     found = {**crates(), "overlap": LIBRARIES}
     names = below(LIBRARIES, found, [])
     for name in names:
-        shutil.copytree(f"{TOP}/crates/{name}", f"{folder}/crates/{name}", copy_function=os.link)
+        shutil.copytree(f"{CRATES}/{name}", f"{folder}/crates/{name}", copy_function=os.link)
     with open(f"{folder}/crates.txt", "w", encoding="utf-8") as file:
         file.writelines(f"{name}: {' '.join(found[name])}\n" for name in [*names, "overlap"])
     shutil.copy(f"{TOP}/HANDLES", folder)
     crate = f"{folder}/crates/overlap"
     os.makedirs(f"{crate}/src")
-    shutil.copy(f"{TOP}/tools/overlap.txt", f"{crate}/src/main.rt")
+    shutil.copy(f"{LIB}/bench/workers.txt", f"{crate}/src/main.rt")
     built = subprocess.run(["rt", "run"], cwd=crate, stdin=subprocess.DEVNULL, stdout=subprocess.PIPE, stderr=subprocess.STDOUT, text=True)
     if built.returncode != 0:
         sys.exit(built.stdout)
     return f"{crate}/out/overlap"
 
 
-def main():
-    plans = [plan.split(",") for plan in sys.argv[1:] or PLANS]
+def main(words):
+    plans = [plan.split(",") for plan in words or PLANS]
     print("| Plan, commands, microseconds each | Workers | Seconds by the clock | Of all processors | Times as fast as the first |")
     print("|---|---|---|---|---|", flush=True)
     with tempfile.TemporaryDirectory(prefix="overlap-", dir=os.path.dirname(TOP)) as folder:
@@ -68,6 +52,3 @@ def main():
                     sys.exit(f"{plan}: {runs} commands were run")
                 first = first or clock
                 print(f"| {plan} | {workers} | {clock / 1e6:.3f} | {processors / 1e6:.3f} | {first / clock:.2f} |", flush=True)
-
-
-main()

@@ -1,39 +1,9 @@
 """What tools/hostile begins with, and what it makes of that. An input is a function of the seed and its number alone."""
-import json
 import os
 import random
 
-TOP = os.path.dirname(os.path.dirname(os.path.abspath(__file__)))
-PLAIN = {"architecture": "amd64", "os": "linux", "rootfs": {"diff_ids": [], "type": "layers"}}
-
-
-class Members(list):
-    """An object as the list of its members, so that a key may be in it twice."""
-
-
-class Spelled(str):
-    """A piece of JSON as it is spelled, right or wrong."""
-
-
-def read(text):
-    return json.loads(text, object_pairs_hook=Members)
-
-
-def spell(value):
-    """JSON's text of a value; a half of a pair in a text becomes an escape."""
-    if isinstance(value, Spelled):
-        return str(value)
-    if isinstance(value, Members):
-        return "{" + ",".join(f"{spell(key)}:{spell(of_key)}" for key, of_key in value) + "}"
-    if isinstance(value, list):
-        return "[" + ",".join(map(spell, value)) + "]"
-    if isinstance(value, dict):
-        return spell(Members(value.items()))
-    return json.dumps(value)
-
-
-def bundle_of(dockerfile, **more):
-    return spell({"dockerfile": {"text": dockerfile}, **more}).encode()
+from bundles import PLAIN, Members, Spelled, bundle_of, compact, lines_of, nested, read, spell, tables
+from common import TOP
 
 
 def packed_entries(folder, path=b""):
@@ -59,19 +29,7 @@ def packed(folder, dockerfile=None, args=None, target=None):
         bundle["args"] = args
     if target is not None:
         bundle["target"] = target
-    return json.dumps(bundle, sort_keys=True, separators=(",", ":"), ensure_ascii=False).encode() + b"\n"
-
-
-def table_rows():
-    """The rows of each table of the program `tables`."""
-    rows, table = {}, ""
-    with open(os.path.join(TOP, "crates/tables/stdin"), encoding="utf-8", newline="\n") as it:
-        for line in it.read().split("\n")[:-1]:
-            if line.startswith("== "):
-                table = line[3:]
-            else:
-                rows.setdefault(table, []).append(line)
-    return rows
+    return compact(bundle).encode() + b"\n"
 
 
 def files_below(path):
@@ -93,7 +51,7 @@ class Seeds:
         for at in [*(os.path.join(examples, name) for name in sorted(os.listdir(examples)) if name.endswith(".json")), *(it for path in paths for it in files_below(path))]:
             with open(at, "rb") as it:
                 self.bundles.append(it.read())
-        rows = table_rows()
+        rows = tables()
         for row in rows["programs"]:
             words, _, bundle = row.partition(" | ")[2].partition(" | ")
             if words.startswith(("dfsolve build", "dfsolve graph")) and bundle:
@@ -129,10 +87,6 @@ BYTES = [b"\x00", b"\xff", b"\xc0\x80", b"\xed\xa0\x80", b"\xf4\x90\x80\x80", b"
 KEYS = ["dockerfile", "context", "images", "args", "caches", "target", "text", "hex", "path", "mode", "uid", "gid", "dir", "config", "tree", "Env", "Labels", "Cmd", "Entrypoint", "Volumes",
         "ExposedPorts", "User", "WorkingDir", "StopSignal", "architecture", "os", "rootfs", "diff_ids", "type", "", "scratch", "\x00", "ops", "version", "inputs", "op", "binds", "caches", "env", "words"]
 NAMES = ["a", "base", "s0", "A", "x.y", "f", "d", "/d/", "/", ".", "$a", "1", "img1", "*", "nope"]
-
-
-def nested(depth, inside="1"):
-    return Spelled("[" * depth + inside + "]" * depth)
 
 
 def nested_objects(depth):
@@ -306,10 +260,6 @@ def changed_bytes(dice, seeds, text):
 
 
 # bundles with many small things
-
-
-def lines_of(*lines):
-    return "\n".join(["FROM scratch", *lines])
 
 
 def many_stages(count):
