@@ -1,7 +1,9 @@
 """Bundles for tools/buildkit --merges, whose linked copies are laid over what stands there: files over folders, folders over files, and onto `/`."""
 import itertools
 
-CONFIG = {"architecture": "amd64", "os": "linux", "rootfs": {"type": "layers", "diff_ids": []}, "config": {}}
+from bundles import PLAIN
+
+CONFIG = {**PLAIN, "config": {}}
 ODD = "COPY --link --chown=5:6 odd /"
 STEPS = ["COPY --link f /d", "COPY --link dir /d", "COPY --link dir /d/q", "COPY --link f /d/q", ODD, "COPY f /d/z", "RUN put /d/r 1", "RUN rm /d",
          "WORKDIR /d", "COPY --link g /e/deep", "COPY --link --chmod=0700 g /e/deep/x"]

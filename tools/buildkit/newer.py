@@ -4,7 +4,7 @@ import os
 import re
 import shutil
 
-import buildkit_packages as packages
+import packages
 
 # what BuildKit imports, and neither its own source nor Docker's engine has got
 SOURCES = [f"golang-{name}-dev" for name in """

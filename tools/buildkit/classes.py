@@ -1,8 +1,8 @@
 """The classes of differences between BuildKit's trees and those of `dfsolve build`, for tools/buildkit: which class explains one, by what it shows."""
 import fnmatch
-import hashlib
-import json
 import re
+
+from bundles import address_of
 
 CLASSES = {
     "merge": "BuildKit before 0.10 knows no merge, and says so by the name mergeop",
@@ -43,11 +43,6 @@ def runs_of(graph):
 
 def copies_of(graph):
     return [op for op in graph["ops"] if op.get("action") == "copy"]
-
-
-def address_of(op):
-    text = json.dumps({key: held for key, held in op.items() if key != "places"}, sort_keys=True, separators=(",", ":"), ensure_ascii=False)
-    return "sha256:" + hashlib.sha256(text.encode()).hexdigest()
 
 
 EMPTY, CONTEXT = (address_of({"inputs": [], "op": "source", "source": name}) for name in ("scratch", "context"))

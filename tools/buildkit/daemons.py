@@ -15,7 +15,7 @@ import tarfile
 import threading
 import time
 
-from buildkit_packages import NotRun
+from packages import NotRun
 
 
 class Unix(http.client.HTTPConnection):

@@ -3,8 +3,8 @@ them; and random folders whose Dockerfiles name some of their paths."""
 import json
 import re
 
-import buildkit_classes as classes
-import buildkit_folders as folders
+import classes
+import folders
 
 SIGNS = "*?["
 

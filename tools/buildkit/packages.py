@@ -6,7 +6,7 @@ import shutil
 import subprocess
 import sys
 
-HERE = os.path.join(os.path.dirname(os.path.abspath(__file__)), "buildkit.d")
+HERE = os.path.dirname(os.path.abspath(__file__))
 # what BuildKit's client imports and its source package hasn't got, and the matcher of newer ones
 SOURCES = [f"golang-{name}-dev" for name in """
     github-containerd-containerd github-containerd-continuity github-containerd-ttrpc github-containerd-typeurl github-docker-distribution
@@ -97,7 +97,7 @@ class Packages:
             told("tar", "-C", self.source, "-xf", packed)
 
     def build(self):
-        """The programs of tools/buildkit.d, by the compiler of Go."""
+        """The programs of tools/buildkit/go, by the compiler of Go."""
         vendor = [found for found, _, _ in os.walk(self.source) if found.endswith("/vendor/github.com/moby/buildkit")]
         if not vendor:
             raise NotRun("no source of BuildKit")
@@ -109,7 +109,7 @@ class Packages:
     def build_own(self, theirs):
         own = os.path.join(self.folder, "own")
         os.makedirs(own, exist_ok=True)
-        link(HERE, f"{own}/src")
+        link(f"{HERE}/go", f"{own}/src")
         for name in ("solve", "fixture", "sent"):
             os.makedirs(f"{self.made}/{name}", exist_ok=True)
             self.go("build", "-tags", self.tags, "-o", f"{self.made}/{name}/{name}", name, path=f"{own}:{theirs}", cwd=f"{own}/src/{name}")
