@@ -1,9 +1,10 @@
-"""Measures small files that cost much, of kinds that nobody means: what each costs at two sizes, and how that grows.
+"""Measures small files that cost much, of each kind at two sizes, and how that grows.
 
     tools/bench costs [--program P] [--largest] [--seconds N] [--memory M] [KIND..]      all kinds where none is named
 
-With --largest each kind is tried at a size near the limits too. A run has ten times so many processor seconds (20) and M MiB (4,096).
-P is what `./run --proved` makes if it isn't given. `tools/hostile/run` tries inputs that nobody means, and judges the answers.
+With --largest each kind is tried at a size near the limits too. A run has ten times so many processor seconds (20)
+and M MiB (4,096). P is what `./run --proved` makes if it isn't given. `tools/hostile/run` tries inputs that nobody
+means, and judges the answers.
 """
 import argparse
 import itertools

@@ -5,8 +5,8 @@
                                          and all the rest (compilers, runs). The gate's own words go to FILE (standard error where there
                                          is none). With --anew, `rt ci --anew` proves all, also what the toolchain keeps on this machine.
 
-Processor minutes grow with load too. It ends with the gate's own status. Stopped by SIGINT or SIGTERM, it stops the gate and prints the
-table so far. It reads /proc, so it needs Linux.
+Processor minutes grow with load too. It ends with the gate's own status. Stopped by SIGINT or SIGTERM, it stops the
+gate and prints the table so far. It reads /proc, so it needs Linux.
 """
 import os
 import signal

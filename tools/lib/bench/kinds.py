@@ -2,9 +2,10 @@
 
     tools/bench kinds [--program P] [--workers N,..] [KIND..]      all kinds where none is named; `tools/bench kinds --kinds` lists them
 
-Each kind is built with 1 and with 4 workers where no numbers are given; those that are drawn have no workers. P is what `./run --proved` makes
-if it isn't given. A row has the size, the workers, the bundle's bytes, the answer's, wall-clock and processor seconds, the most memory, and the
-exit status. Below the two sizes stands how much dearer the larger one is for as much work, by the processor's seconds.
+Each kind is built with 1 and with 4 workers where no numbers are given; those that are drawn have no workers. P is
+what `./run --proved` makes if it isn't given. A row has the size, the workers, the bundle's bytes, the answer's,
+wall-clock and processor seconds, the most memory, and the exit status. Below the two sizes stands how much dearer the
+larger one is for as much work, by the processor's seconds.
 """
 import argparse
 import json

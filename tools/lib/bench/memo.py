@@ -2,10 +2,10 @@
 
     tools/bench memo [--program P] FILE[,OTHER] ..
 
-The bundle in FILE is built, and then OTHER, or FILE again, with the same memo. The first build's seconds are those of a program that builds
-FILE alone, and the second's what a program takes longer that builds both. Of three runs the least counts. The most memory has the texts of the
-case's bundles and answers in it. P is the program `tables`, if it isn't the one that `rt ci` leaves: a bundle is a case of its table `memos`.
-A file's one line ends with a line feed.
+The bundle in FILE is built, and then OTHER, or FILE again, with the same memo. The first build's seconds are those of
+a program that builds FILE alone, and the second's what a program takes longer that builds both. Of three runs the
+least counts. The most memory has the texts of the case's bundles and answers in it. P is the program `tables`, if it
+isn't the one that `rt ci` leaves: a bundle is a case of its table `memos`. A file's one line ends with a line feed.
 """
 import argparse
 import os

@@ -2,8 +2,8 @@
 
     tools/bench plain [KIND..]      of huge_image, walked_image, ignored and walked; all four where none is named
 
-The program is in `plain-rust/` beside this file. Cargo builds it, with two libraries from crates.io. It answers these kinds byte for byte as
-dfsolve does, by one thread, and knows nothing beyond what they ask.
+The program is in `plain-rust/` beside this file. Cargo builds it, with two libraries from crates.io. It answers these
+kinds byte for byte as dfsolve does, by one thread, and knows nothing beyond what they ask.
 """
 import subprocess
 import sys

@@ -1,9 +1,10 @@
-"""Times a build with many commands side by side on a large tree, and counts how often a thread waits.
+"""Times a build of many commands on a large tree, and counts how often a thread waits.
 
     tools/bench waits PROGRAM..      as in `tools/bench waits before/dfsolve after/dfsolve`: each is a built program, and its path is its name in the table
 
-An image has 20,000 files. A hundred stages begin with it, each with 38 commands that put a file, and the target copies a file of each. A thread waits
-where it takes a lock that another one holds, or sleeps until a claim is to be had; the system counts these waits. It is built by 1, 4 and 64 workers: the least time of five runs of each program,
+An image has 20,000 files. A hundred stages begin with it, each with 38 commands that put a file, and the target
+copies a file of each. A thread waits where it takes a lock that another one holds, or sleeps until a claim is to be
+had; the system counts these waits. It is built by 1, 4 and 64 workers: the least time of five runs of each program,
 which run in turn, and the waits of that run. The answers have to be equal.
 """
 import json

@@ -2,10 +2,11 @@
 
     tools/bench workers [PLAN,WORKERS,..]..      as in `tools/bench workers 'side 1000 1000,1,2,4,8'`; the rows of `PLANS` where none is named
 
-A plan is a shape, how many commands it has, and for how many microseconds each of them computes. The program that solves them stands in
-`workers.txt` beside this file, with the shapes: in a crate the gate would prove it each time, and the toolchain lets no `.rt` file stand outside
-of crates. It is proved and built here, in a copy of the crates beside the repository, which takes minutes; prove those that it stands on first
-(`tools/proof prove workers`, `tools/proof prove samples`). Run it on as many processors as workers are to run at a time.
+A plan is a shape, how many commands it has, and for how many microseconds each of them computes. The program that
+solves them stands in `workers.txt` beside this file, with the shapes: in a crate the gate would prove it each time,
+and the toolchain lets no `.rt` file stand outside of crates. It is proved and built here, in a copy of the crates
+beside the repository, which takes minutes; prove those that it stands on first (`tools/proof prove workers`,
+`tools/proof prove samples`). Run it on as many processors as workers are to run at a time.
 """
 import os
 import shutil

@@ -1,16 +1,18 @@
-"""Refuses every allocation of a build in turn, and every start of a thread: each gives the right answer or wants memory.
+"""Refuses each allocation of a build in turn, and each start of a thread.
 
     tools/check allocations                       of each row of the table `stores`: its bundle's build, and the row itself; and three builds with one memo
     tools/check allocations WORKERS [BUNDLE]      the build of this bundle alone, or of the first example, by so many workers
 
-A build with a refused allocation has to give the right answer, or `out of memory` with status 3 and nothing on standard output. A row of `stores`
-solves a plan twice over one store and with one memo: after want of memory no lease may be out, and the second time has to give the answer. Of three
-builds with one memo (a row of the table `memos`) each has to give its answer or want memory, and those after it find what is kept, or run it again. A
-thread that isn't started changes nothing. Each run has to end within 60 seconds.
+A build with a refused allocation has to give the right answer, or `out of memory` with status 3 and nothing on
+standard output. A row of `stores` solves a plan twice over one store and with one memo: after want of memory no lease
+may be out, and the second time has to give the answer. Of three builds with one memo (a row of the table `memos`)
+each has to give its answer or want memory, and those after it find what is kept, or run it again. A thread that isn't
+started changes nothing. Each run has to end within 60 seconds.
 
-Options: --program FILE and --tables FILE are the programs of the crates `dfsolve` and `tables`, by default those that `rt ci` or `rt run` left in
-these crates (or, of dfsolve, the one that `./run` made); --jobs N, how many runs at a time. It takes the C compiler that CC names, or `cc`, or the
-toolchain's clang, and prints how many runs there were. With several workers the number of allocations differs from run to run, so a tenth more are refused than one run asks
+Options: --program FILE and --tables FILE are the programs of the crates `dfsolve` and `tables`, by default those that
+`rt ci` or `rt run` left in these crates (or, of dfsolve, the one that `./run` made); --jobs N, how many runs at a
+time. It takes the C compiler that CC names, or `cc`, or the toolchain's clang, and prints how many runs there were.
+With several workers the number of allocations differs from run to run, so a tenth more are refused than one run asks
 for, and what a refusal hits differs too.
 """
 import argparse

@@ -1,10 +1,11 @@
-"""Looks whether the table `trees` of the program `tables` has the lists of changes that are made here, with the answers of a plain map.
+"""Compares the lists of changes in the table `trees`, and their answers, with those of a plain map.
 
     tools/check lists             tells whether crates/tables/stdin has the lists, and stdout their answers; ends with 1 if one has others
     tools/check lists --write     writes both anew
 
-A tree is here one map from paths to entries, which shares nothing with another one: the trees of the program share folders, and a change to
-one must be seen in no other. Each change is made to any of the trees before, and copies from any of them; at the end all of them are summed up.
+A tree is here one map from paths to entries, which shares nothing with another one: the trees of the program share
+folders, and a change to one must be seen in no other. Each change is made to any of the trees before, and copies from
+any of them; at the end all of them are summed up.
 """
 import re
 import sys

@@ -1,9 +1,10 @@
-"""Looks whether the tools, files and sections that pages, scripts and comments name are there.
+"""Finds tools, files and sections that pages and comments name, and that aren't there.
 
     tools/check pages      prints each name that leads nowhere, with its place; ends with 1 if there is one
 
-A tool is what is named in backticks, at the beginning of a line or behind `$here/`; of one that has commands the command has to be there too.
-A link of a page leads to a file of the repository, or to a section of a page by its heading. CHANGELOG may name what is no more.
+A tool is what is named in backticks, at the beginning of a line or behind `$here/`; of one that has commands the
+command has to be there too. A link of a page leads to a file of the repository, or to a section of a page by its
+heading. CHANGELOG may name what is no more.
 """
 import os
 import re

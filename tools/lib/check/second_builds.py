@@ -1,12 +1,13 @@
-"""Builds many bundles through one memo, and compares every answer with that of a build without one.
+"""Builds many bundles through one memo, and compares the answers with those of builds without it.
 
     tools/check second-builds [--count N] [--seed S] [--builder FILE] [--memo FILE]
 
-The bundles are those of the table `programs`, and others made of them: with a file of the context changed, a line more, a line less, two lines
-exchanged. So many of them (1,000) are built, each twice, in random order. A bundle that isn't built within 10 seconds and 2 GiB, as one that doubles
-its trees may, is left out. `--builder` is the program `dfsolve` and `--memo` the program `tables`, if they aren't those that `rt ci` leaves: all
-bundles are one case of its table `memos`. It prints how many builds there were, how many commands ran in them, and each bundle whose answers differ,
-and ends with 1 if one does.
+The bundles are those of the table `programs`, and others made of them: with a file of the context changed, a line
+more, a line less, two lines exchanged. So many of them (1,000) are built, each twice, in random order. A bundle that
+isn't built within 10 seconds and 2 GiB, as one that doubles its trees may, is left out. `--builder` is the program
+`dfsolve` and `--memo` the program `tables`, if they aren't those that `rt ci` leaves: all bundles are one case of its
+table `memos`. It prints how many builds there were, how many commands ran in them, and each bundle whose answers
+differ, and ends with 1 if one does.
 """
 import argparse
 import concurrent.futures

@@ -1,5 +1,5 @@
 #!/usr/bin/env bash
-# Compares the program's status, standard output and standard error with the table of exit statuses in docs/FORMATS.md.
+# Compares status, output and errors of the program with the table in docs/FORMATS.md.
 #
 #     tools/check statuses             runs the program that `./run --proved` makes
 #     tools/check statuses PROGRAM     runs one that was made before

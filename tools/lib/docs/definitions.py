@@ -1,15 +1,17 @@
-"""Says which definitions a reader has to believe: all that public contracts reach, or those of one call.
+"""Says which definitions a reader has to believe: all of them, or those of one call.
 
-    tools/docs definitions                   prints a page: each definition that a public contract reaches, with its rule, its public source and its file
+    tools/docs definitions                   prints a page: each definition that a public contract reaches, with its rule,
+                                             its public source and its file
     tools/docs definitions --output FILE     writes the page to FILE
-    tools/docs definitions CALL..            prints what the contract of a public call rests on, as `run_build` or `Tree::put`: each definition with
-                                             its rule and text, the nearest first
+    tools/docs definitions CALL..            prints what the contract of a public call rests on, as `run_build` or
+                                             `Tree::put`: each definition with its rule and text, the nearest first
     tools/docs definitions --unreached       prints the definitions of specs/ that no public contract reaches
-    tools/docs definitions --check           makes the page, and ends with 1 if a name of specs/ isn't found, or its row isn't as it should be
+    tools/docs definitions --check           makes the page, and ends with 1 if it lacks a name of specs/, or a row isn't
+                                             as it should be
 
-The rule is the comment above the definition; one that stands below others without a comment of its own has that of the nearest above. The source is what
-the comment names in brackets, as "(OCI image specification)", else what the file's first comment names, else "own". Laws of traits and views of types
-aren't among the definitions: they stand at the trait and the type.
+The rule is the comment above the definition. The source is what the comment names in brackets, as "(OCI image
+specification)", else what the file's first comment names, else "own". Laws of traits and views of types aren't among
+the definitions: they stand at the trait and the type.
 """
 import argparse
 import collections
@@ -284,7 +286,7 @@ def is_in_mutual(at, name):
 
 
 def faults_of_rows(found):
-    """Rows of the page that aren't read as they were written, and names of definitions in two places that a table can't tell apart."""
+    """Rows of the page that aren't read as they were written, and definitions that it hasn't just once."""
     shown = collections.Counter()
     crate = None
     for line in page(found.table, found.keys).split("\n"):

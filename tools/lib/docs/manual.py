@@ -2,8 +2,8 @@
 
     tools/docs manual PROGRAM FOLDER      writes dfsolve.1, and the completions dfsolve.bash, _dfsolve (zsh) and dfsolve.fish, to the folder
 
-`./run install` puts them where a system looks for such files. They say nothing that the help doesn't say, so they need no upkeep.
-`tools/check manual` looks whether they are whole.
+`./run install` puts them where a system looks for such files. They say nothing that the help doesn't say, so they
+need no upkeep. `tools/check manual` looks whether they are whole.
 """
 import os
 import re

@@ -3,9 +3,9 @@
     tools/docs names              prints each such name with the places where it is declared, types first
     tools/docs names NAME..       prints where these names are declared
 
-Looked at are types, traits and public functions of src/, and definitions of specs/. A name that is re-exported is declared once and
-isn't listed. Two crates may well have a function `read` each; a type or a definition that stands twice is worth a look.
-docs/WORDS.md says what each word of the house means.
+Looked at are types, traits and public functions of src/, and definitions of specs/. A name that is re-exported is
+declared once and isn't listed. Two crates may well have a function `read` each; a type or a definition that stands
+twice is worth a look. docs/WORDS.md says what each word of the house means.
 """
 import glob
 import os

@@ -1,9 +1,10 @@
-"""Checks some functions of a crate and all that they call, over the sources of the crates below.
+"""Checks some functions and all that they call, over the sources of the crates below.
 
     tools/proof function CRATE FUNCTION.. [--allow-holes]     as in `tools/proof function evaluation evaluated::evaluate`
 
-It needs no crate proved before and locks none, so it serves where those below are being changed or proved by somebody else. The files of
-lemmas are checked that a function's proof cites. A few minutes of one processor; it gives no verdict, which `rt check` does.
+It needs no crate proved before and locks none, so it serves where those below are being changed or proved by somebody
+else. The files of lemmas are checked that a function's proof cites. A few minutes of one processor; it gives no
+verdict, which `rt check` does.
 """
 import os
 import sys

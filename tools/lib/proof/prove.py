@@ -2,14 +2,14 @@
 
     tools/proof prove [CRATE]      CRATE is dfsolve where it is left out
 
-A crate is proved as soon as those below it are; of several it takes the one first from which the longest chain leads up. As many are
-proved at a time as there are processors and memory for them. What is kept in out/ isn't proved again. Where CRATE is a program, it is
-built too, tried on its example and left in out/. It says how far it is, and prints what was said of each crate that isn't proved. It goes
-on with those that don't stand on one, and ends with 1.
+A crate is proved as soon as those below it are; of several it takes the one first from which the longest chain leads
+up. As many are proved at a time as there are processors and memory for them. What is kept in out/ isn't proved again.
+Where CRATE is a program, it is built too, tried on its example and left in out/. It says how far it is, and prints
+what was said of each crate that isn't proved. It goes on with those that don't stand on one, and ends with 1.
 
-Several `rt lib` would go one after the other, since each locks all crates below its own. `rt all check --jobs N` lets lanes wait for
-lower crates, and takes a fifth longer. So this goes by the toolchain's module `rtlib`, and holds its locks to the end; if that module
-isn't as it is known here, `rt all check` proves.
+Several `rt lib` would go one after the other, since each locks all crates below its own. `rt all check --jobs N` lets
+lanes wait for lower crates, and takes a fifth longer. So this goes by the toolchain's module `rtlib`, and holds its
+locks to the end; if that module isn't as it is known here, `rt all check` proves.
 """
 import os
 import shutil

@@ -1,11 +1,12 @@
-"""Takes the libraries that `rt ci` built in another checkout, so that checks here begin with them.
+"""Takes the libraries that `rt ci` built in another checkout, for checks here.
 
     tools/proof take FROM     FROM is the top of that checkout
 
-`rt ci` builds libraries of statements, and `rt lib` and `tools/proof prove` build libraries that hold their proofs too. A check of an upper crate
-over statements takes a third of the time and of the memory. `rt ci` leaves no sum with them, by which `rt check` knows that a library is of the
-sources that stand here, so this writes it. A library is taken only if the sources of its crate are the same in both checkouts, and if all below it
-were taken. It prints how many were taken.
+`rt ci` builds libraries of statements, and `rt lib` and `tools/proof prove` build libraries that hold their proofs
+too. A check of an upper crate over statements takes a third of the time and of the memory. `rt ci` leaves no sum with
+them, by which `rt check` knows that a library is of the sources that stand here, so this writes it. A library is
+taken only if the sources of its crate are the same in both checkouts, and if all below it were taken. It prints how
+many were taken.
 """
 import os
 import shutil

@@ -1,18 +1,22 @@
-"""Tries wrong bodies, each of which the prover has to refuse, and keeps of each crate what was tried.
+"""Tries wrong bodies, which the prover has to refuse, and keeps of each crate what was tried.
 
     tools/proof wrong-bodies [CRATE..]          tries all edits of these crates; with no name, of each crate that --stale names
     tools/proof wrong-bodies --each CRATE..     the same, each edit in a check of its own, as `rt must-fail` tries them
     tools/proof wrong-bodies --stale            names each crate whose edits weren't tried since it changed; ends with 1 if there is one
     tools/proof wrong-bodies --fewer CRATE..    notes that edits of these crates were taken away, and tries none; ends with 1 if it refuses one of them
 
-A crate's edits are the files must-fail/*.edit, which the gate tries too, and wrong-bodies/*.edit. If all are refused, a sum of the crate's sources and edits,
-without the lines that are comments, is written to wrong-bodies/tried, which is committed. --fewer writes that sum anew only if nothing else changed since the commit that wrote it last: the sum was right
-there, every source is the same, and each edit that is left is one of those that were tried there. A crate without edits has no such file.
+A crate's edits are the files must-fail/*.edit, which the gate tries too, and wrong-bodies/*.edit. If all are refused,
+a sum of the crate's sources and edits, without the lines that are comments, is written to wrong-bodies/tried, which
+is committed. --fewer writes that sum anew only if nothing else changed since the commit that wrote it last: the sum
+was right there, every source is the same, and each edit that is left is one of those that were tried there. A crate
+without edits has no such file.
 
-Edits of different functions are tried in one check, over a copy of what the crate's out/ keeps. Contracts don't change, so each of these functions has to be
-refused for a reason of its own. An edit that isn't is tried with the others that are left, then by itself over the kept work, and at last from nothing, before
-it counts as proved. The libraries below are proved first, if they aren't. RT_JOBS says how many crates may be tried at once. What was refused is kept
-in the crate's out/, so a run that is stopped, or finds one that isn't refused, leaves the others tried as long as no source and no library below changes.
+Edits of different functions are tried in one check, over a copy of what the crate's out/ keeps. Contracts don't
+change, so each of these functions has to be refused for a reason of its own. An edit that isn't is tried with the
+others that are left, then by itself over the kept work, and at last from nothing, before it counts as proved. The
+libraries below are proved first, if they aren't. RT_JOBS says how many crates may be tried at once. What was refused
+is kept in the crate's out/, so a run that is stopped, or finds one that isn't refused, leaves the others tried as
+long as no source and no library below changes.
 """
 import contextlib
 import copy
