@@ -11,10 +11,12 @@ is committed. --fewer writes that sum anew only if nothing else changed since th
 was right there, every source is the same, and each edit that is left is one of those that were tried there. A crate
 without edits has no such file.
 
-Edits of different functions are tried in one check, over a copy of what the crate's out/ keeps. Contracts don't
-change, so each of these functions has to be refused for a reason of its own. An edit that isn't is tried with the
-others that are left, then by itself over the kept work, and at last from nothing, before it counts as proved. The
-libraries below are proved first, if they aren't. RT_JOBS says how many crates may be tried at once. What was refused
+Edits of different functions are tried in one check, of these functions and what they call, over a copy of what the
+crate's out/ keeps. Contracts don't change, so each of these functions has to be refused for a reason of its own. An
+edit that isn't is tried with the others that are left, then by itself in a check of the whole crate, over the kept
+work, and at last from nothing, before it counts as proved. The libraries below are proved first, if they aren't.
+First of all the functions have to be proved without the edits, and the whole crate where an edit changes something
+outside of bodies. RT_JOBS says how many crates may be tried at once. What was refused
 is kept in the crate's out/, so a run that is stopped, or finds one that isn't refused, leaves the others tried as
 long as no source and no library below changes.
 """
@@ -236,10 +238,16 @@ def parted(batch, said):
     return (faulty, others) if faulty and others else (batch[: len(batch) // 2], batch[len(batch) // 2 :])
 
 
+def changed_alone(edits):
+    """The flags by which a check proves the functions that these edits change, and what they call, and nothing else."""
+    names = sorted({name for edit in edits for _, name, _, _ in edit.functions})
+    return [word for name in names for word in ("--only", name)]
+
+
 def refused_at_once(rt, crate, batch, texts, kept):
     """Those of the edits whose functions the prover refuses each for a reason of its own, in one check of all."""
-    said = rt.checked(crate, texts, [*FLAGS, "--allow-holes"], kept).stdout.split("\n")
-    if not any(it.startswith("holes=") for it in said) and len(batch) > 1:
+    said = rt.checked(crate, texts, [*FLAGS, "--allow-holes", *changed_alone(batch)], kept).stdout.split("\n")
+    if not any(it.startswith(("holes=", "only=")) for it in said) and len(batch) > 1:
         parts = [together(rt, crate, it) for it in parted(batch, said)]
         return [edit for part, changed in parts for edit in refused_at_once(rt, crate, part, changed, kept)]
     places, names = set(), set()
@@ -269,7 +277,8 @@ def verdicts(rt, crate, edits, is_each):
     with tempfile.TemporaryDirectory(prefix="wrong-bodies-") as kept:
         if os.path.isdir(f"{crate.folder}/out/incremental"):
             shutil.copytree(f"{crate.folder}/out/incremental", kept, dirs_exist_ok=True)
-        if rt.checked(crate, {}, FLAGS, kept).returncode:
+        whole = is_each or not all(it.is_local for it in edits)
+        if rt.checked(crate, {}, FLAGS if whole else [*FLAGS, *changed_alone(edits)], kept).returncode:
             return [(it.name, False, "the crate isn't proved without it") for it in edits]
         left = [it for it in edits if it.is_local and not is_each and it.name not in known]
         while left:
