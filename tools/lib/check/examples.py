@@ -1,12 +1,16 @@
-"""Compares what the program answers to the examples with the tables of docs/EXAMPLES.md.
+"""Compares what the program answers to all examples with what the pages say.
 
-    tools/check examples             packs, draws and builds each folder and bundle of its tables by `./run`, and prints what differs
+    tools/check examples             runs them by `./run`, and prints what differs
     tools/check examples PROGRAM     the same by a program that was made before
+
+Three kinds are run: the folders and bundles of `examples/`, which the tables of docs/EXAMPLES.md tell of; the rows of
+docs/formats that have lines and what these give (`_rules.py`); and the commands of all pages (`_blocks.py`).
 """
 import json
 import os
 import re
 
+from check import _blocks, _rules
 from common import TOP
 from runs import answered
 
@@ -42,9 +46,9 @@ def built(text):
     return f"*failed*, line {found['line']}, `{found['cause']}`" if found["result"] == "failed" else f"*{found['result']}*"
 
 
-def main(words):
-    program = os.path.abspath(words[0]) if words else f"{TOP}/run"
-    wrong = 0
+def check(program):
+    """What is wrong with the tables of docs/EXAMPLES.md, and how many rows were tried."""
+    wrong, count = [], 0
 
     def answer(command, bundle):
         return answered(program, [command], bundle, stderr=None).stdout
@@ -58,9 +62,17 @@ def main(words):
             named = [NUMBERS[word] for word in LINKED.findall(cells[1])]
             checks.append((f"{count} operations", cells[1]))
             checks.append((str(merges), str(named)))
-        for found, said in checks:
-            if not said.startswith(found):
-                wrong += 1
-                print(f"{name}: the program answers {found}, and the table says {said}")
-    print("no difference" if wrong == 0 else f"{wrong} differences")
-    return 1 if wrong else 0
+        count += 1
+        wrong += [f"{name}: the program answers {found}, and the table says {said}" for found, said in checks if not said.startswith(found)]
+    return wrong, count
+
+
+def main(words):
+    program = os.path.abspath(words[0]) if words else f"{TOP}/run"
+    faults = []
+    for what, part in (("folders and bundles", check), ("lines of rules", _rules.check), ("commands", _blocks.check)):
+        wrong, count = part(program)
+        faults += wrong
+        print(f"{count} {what}, {len(wrong)} differ")
+    print("\n".join(faults), end="\n" if faults else "")
+    return 1 if faults else 0
