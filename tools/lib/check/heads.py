@@ -1,8 +1,9 @@
-"""Looks whether the examples at the top of crates call what there is, with as many values as it takes.
+"""Compares calls in the examples of crates and pages with how many values these calls take.
 
     tools/check heads      prints each call that isn't so; ends with 1 if there is one
 
-A crate's first comment has an example between lines of three backticks. Nothing compiles it, so its calls are compared
+A crate's first comment has an example between lines of three backticks, and a page one in a block `rust`. Nothing compiles
+them, so their calls are compared
 with the definitions of the crate, else of those below it: `Type::name(..)` with that type's, `it.name(..)` with any of that
 name which takes a `self`, and `name(..)` with functions of no type. What none of these has is the toolchain's.
 """
@@ -10,6 +11,7 @@ import glob
 import os
 import re
 
+from check import _blocks
 from common import CRATES, TOP, below, crates
 
 BLOCK = re.compile(r"```\n(.*?)```", re.S)
@@ -107,9 +109,9 @@ def counts(call, defined):
     return {count + (has_self and bool(call[1])) for count, has_self in meant}
 
 
-def wrong_calls(crate, own, lower):
-    """The calls of a crate's examples that have another number of values than they take, each with that number."""
-    for block in examples(crate):
+def wrong_calls(blocks, own, lower):
+    """The calls of examples that have another number of values than they take, each with that number."""
+    for block in blocks:
         for call in CALL.finditer(block):
             taken = values(block, call.end() - 1)
             there = counts(call, own) or counts(call, lower)
@@ -123,7 +125,7 @@ def main(_words):
     wrong, stale, count = 0, [], 0
     for crate, libraries in listed.items():
         lower = [it for name in below(libraries, listed, []) for it in tables[name]]
-        faults = [*wrong_calls(crate, tables[crate], lower)]
+        faults = [*wrong_calls(examples(crate), tables[crate], lower)]
         count += len(examples(crate))
         if faults and crate in STALE:
             stale.append(crate)
@@ -131,5 +133,12 @@ def main(_words):
         wrong += len(faults)
         for why in faults:
             print(f"{os.path.relpath(CRATES, TOP)}/{crate}: {why}")
+    everything = [it for table in tables.values() for it in table]
+    for page in _blocks.pages():
+        blocks = [COMMENT.sub("", block.text) for block in _blocks.blocks_of(page) if block.kind == "rust"]
+        count += len(blocks)
+        for why in wrong_calls(blocks, everything, []):
+            wrong += 1
+            print(f"{page}: {why}")
     print(f"{count} examples, {wrong} calls of them wrong" + (f"; known to be stale: {', '.join(stale)}" if stale else ""))
     return 1 if wrong else 0
