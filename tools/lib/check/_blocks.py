@@ -30,6 +30,7 @@ STUBS = {
 }
 CALLED = re.compile(r"(?:\bdfsolve|\./run(?: --proved)?|\$DFSOLVE/run) ([a-z]+)((?: +[^|`;&()<>\n]+)?)")
 OPTION = re.compile(r"(?<=\s)--[a-z][a-z-]*")
+NAMED = re.compile(r"`(?:dfsolve|\./run(?: --proved)?) ([a-z]+)")
 
 
 class Block(NamedTuple):
@@ -131,6 +132,9 @@ def wrong_options(page, known):
         name = found[1]
         if name in known:
             yield from (f"{page}:{line}: {name} has no option {it}" for it in OPTION.findall(found[2]) if it not in known[name])
+    for found in NAMED.finditer(text):
+        if found[1] not in known and found[1] != "install":
+            yield f"{page}:{text.count(chr(10), 0, found.start()) + 1}: there is no command {found[1]}"
 
 
 def check(program):

@@ -25,7 +25,8 @@ FENCED = re.compile(r"^```.*?^```$", re.M | re.S)
 SPAN = re.compile(r"(?<!`)`(?!`)([^`\n]+)`")
 CALL = re.compile(r"(?=\w*_|\w+::)[A-Za-z_]\w*(?:::\w+)*")
 FILE = re.compile(r"(?:[\w+-]+/)*[\w+-]+\.(?:rt|antt|edit)")
-CALLED = re.compile(r"(rt|tools/[\w-]+) ([a-z-]+)((?: [^ ]+)*)")
+RT = re.compile(r"rt ([a-z-]+)(?: [^ ]+)*")
+CALLED = re.compile(r"\btools/([\w/-]*\w)((?: +[^\s`|&;<>()]+)+)")
 # names of others, and forms of names
 NOT_OURS = {"node_modules", "try_collect", "Arc::ptr_eq", "MOST_X", "most_x", "proofs/laws/NAME/Answers.antt"}
 
@@ -89,29 +90,42 @@ class Sources:
 
 
 @functools.cache
-def known_of(tool):
-    """The text that tells which commands and options `rt` or a command of a tool has."""
-    if tool == "rt":
-        return subprocess.run(["rt"], stdout=subprocess.PIPE, stderr=subprocess.STDOUT, text=True, check=False).stdout if shutil.which("rt") else None
-    with open(tool, encoding="utf-8") as it:
-        return it.read()
+def help_of_rt():
+    """What `rt` prints of its commands, or nothing where there is no toolchain."""
+    if not shutil.which("rt"):
+        return None
+    return subprocess.run(["rt"], stdout=subprocess.PIPE, stderr=subprocess.STDOUT, text=True, check=False).stdout
 
 
 def wrong_command(name):
-    """Why a command line in backticks asks for what isn't there, or nothing."""
-    found = CALLED.fullmatch(name)
-    if not found:
+    """Why a command of `rt` in backticks isn't one, or nothing."""
+    found = RT.fullmatch(name)
+    if not found or help_of_rt() is None or re.search(rf"\b{found[1]}\b", help_of_rt()):
         return None
-    tool, command, words = found.groups()
-    options = [word.split("=")[0] for word in words.split() if word.startswith("--")]
-    if tool == "rt":
-        text = known_of("rt")
-        lost = [] if text is None or re.search(rf"\b{command}\b", text) else [command]
-    else:
-        file = WITH_COMMANDS.get(tool.removeprefix("tools/"), {}).get(command)
-        text = known_of(file) if file else None
-        lost = [option for option in options if text is not None and option not in text]
-    return f"{tool} doesn't know {lost[0]}" if lost else None
+    return f"rt doesn't know {found[1]}"
+
+
+@functools.cache
+def text_of(tool, command):
+    """The text of a tool's command, or of a tool without commands and of what stands beside it."""
+    file = WITH_COMMANDS.get(tool, {}).get(command, f"{TOP}/tools/{tool}")
+    folder = os.path.dirname(file)
+    beside = [f"{folder}/{name}" for name in sorted(os.listdir(folder)) if name.endswith(".py")] if "/" in tool else []
+    texts_there = []
+    for path in [file, *beside]:
+        if os.path.isfile(path):
+            with open(path, encoding="utf-8") as it:
+                texts_there.append(it.read())
+    return "\n".join(texts_there)
+
+
+def wrong_options(text):
+    """The options that a page gives to a tool which doesn't know them, each with the place in the text."""
+    for found in CALLED.finditer(text):
+        tool, words = found[1], found[2].split()
+        for option in (word.split("=")[0] for word in words if word.startswith("--")):
+            if option != "--help" and option not in text_of(tool, words[0]):
+                yield found.start(1), f"tools/{tool} doesn't know {option}"
 
 
 def sections(text):
@@ -141,6 +155,7 @@ def main(_words):
         found = [] if path == "CHANGELOG.md" else [*wrong_tools(text)]
         if path in pages:
             found += wrong_links(path, text, pages)
+            found += wrong_options(text) if path != "CHANGELOG.md" else []
             found += sources.wrong_names(text) if path != "CHANGELOG.md" else []
         for place, why in found:
             wrong += 1
