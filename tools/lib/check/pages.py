@@ -4,8 +4,9 @@
 
 A tool is what is named in backticks, at the beginning of a line or after `$here/`; of one that has commands the command
 has to be there too, and its file has to know the options. A link of a page leads to a file of the repository, or to a
-section of a page by its heading. In backticks on a page, a name with `_` or `::` has to be a word of the sources, a
-file's name the end of a file's path, and a command of `rt` one that it lists. CHANGELOG may name what is no more.
+section of a page by its heading. In backticks on a page, a name with `_` or `::` has to be a word of the sources, a file's
+name the end of a file's path, and a command of `rt` one that it lists; a file after a name declares that name. CHANGELOG
+may name what is no more.
 """
 import functools
 import os
@@ -27,6 +28,7 @@ CALL = re.compile(r"(?=\w*_|\w+::)[A-Za-z_]\w*(?:::\w+)*")
 FILE = re.compile(r"(?:[\w+-]+/)*[\w+-]+\.(?:rt|antt|edit)")
 RT = re.compile(r"rt ([a-z-]+)(?: [^ ]+)*")
 CALLED = re.compile(r"\btools/([\w/-]*\w)((?: +[^\s`|&;<>()]+)+)")
+DECLARED = re.compile(r"`(\w+)`(?:\*\*,| \() ?`(crates/[\w/]+\.(?:antt|rt))`")
 # names of others, and forms of names
 NOT_OURS = {"node_modules", "try_collect", "Arc::ptr_eq", "MOST_X", "most_x", "proofs/laws/NAME/Answers.antt"}
 
@@ -87,6 +89,16 @@ class Sources:
             why = self.wrong_name(found[1])
             if why:
                 yield found.start(1), why
+
+
+def wrong_places(text):
+    """The names that a page says to stand in a file, and that don't, each with the place in the text."""
+    for found in DECLARED.finditer(text):
+        name, path = found.groups()
+        if os.path.exists(f"{TOP}/{path}") and not os.path.isdir(f"{TOP}/crates/{name}"):
+            with open(f"{TOP}/{path}", encoding="utf-8") as it:
+                if not re.search(rf"\b(?:pub|fn|struct|enum|trait|record|data|abbrev|unfoldable) (?:\w+ )*{name}\b", it.read()):
+                    yield found.start(1), f"{path} doesn't declare {name}"
 
 
 @functools.cache
@@ -155,7 +167,7 @@ def main(_words):
         found = [] if path == "CHANGELOG.md" else [*wrong_tools(text)]
         if path in pages:
             found += wrong_links(path, text, pages)
-            found += wrong_options(text) if path != "CHANGELOG.md" else []
+            found += [*wrong_options(text), *wrong_places(text)] if path != "CHANGELOG.md" else []
             found += sources.wrong_names(text) if path != "CHANGELOG.md" else []
         for place, why in found:
             wrong += 1
