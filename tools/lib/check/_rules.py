@@ -5,10 +5,12 @@ they give; a column `Example` is one of lines too, which give what the first col
 and what they give likewise, or all of them give the same. `FROM scratch` stands above lines that have no FROM.
 
 In lines: what begins with `"` is a member of the bundle, and with `{` the bundle itself; members alone go with the lines
-of the case before. `N times` before a text puts it N times after the one before. `⏎` is LF, and `⇥` a tab. Of what is given: a code or a cause, perhaps with its line; a member of the configuration
-or of the graph, as it stands there; or all files of the tree, each with its mode and owner or its text if they are told.
+of the case before. `N times` before a text puts it N times after the one before. `⏎` is LF, and `⇥` a tab. Of what is
+given: a code or a cause, perhaps with its line; a member of the configuration or of the graph, as it stands there; or
+all files of the tree, each with its mode and owner or its text if they are told.
 """
 import json
+import os
 import re
 from typing import NamedTuple
 
@@ -16,7 +18,7 @@ from bundles import PLAIN, compact
 from common import TOP
 from runs import answered
 
-PAGES = ["docs/formats/dockerfile.md", "docs/formats/bundle.md", "docs/formats/command-line.md", "docs/formats/from-docker.md"]
+PAGES = [f"docs/formats/{name}" for name in sorted(os.listdir(f"{TOP}/docs/formats"))]
 SPAN = re.compile(r"(?<!`)(`+)(?!`)(.+?)(?<!`)\1(?!`)")
 CELL_ENDS = re.compile(r"(?<!\\)\|")
 CODE = re.compile(r"R\d\d|F\d|exit \d+")

@@ -1,5 +1,5 @@
 #!/usr/bin/env bash
-# Compares status, output and errors of the program with the table in docs/FORMATS.md.
+# Compares status, output and errors of the program with the table of statuses in docs/formats/command-line.md.
 #
 #     tools/check statuses             runs the program that `./run --proved` makes
 #     tools/check statuses PROGRAM     runs one that was made before
@@ -280,4 +280,4 @@ want=3 out='' err='out of memory' status=0
 (ulimit -v 400000 && exec "$program" build) <"$work/in" >"$work/out" 2>"$work/err" || status=$?
 judge 'more paths to place than there is memory for'
 
-echo "$rows runs, each with the status and the words of docs/FORMATS.md"
+echo "$rows runs, each with the status and the words of docs/formats/command-line.md"
