@@ -5,8 +5,8 @@
 A tool is what is named in backticks, at the beginning of a line or after `$here/`; of one that has commands the command
 has to be there too, and its file has to know the options. A link of a page leads to a file of the repository, or to a
 section of a page by its heading. In backticks on a page, a name with `_` or `::` has to be a word of the sources, a file's
-name the end of a file's path, and a command of `rt` one that it lists; a file after a name declares that name. CHANGELOG
-may name what is no more.
+name the end of a file's path, and a command of `rt` one that it lists; a file after a name declares that name. A page of
+docs/formats begins with links to its sections. CHANGELOG may name what is no more.
 """
 import functools
 import os
@@ -145,6 +145,16 @@ def sections(text):
     return {re.sub(r"[^\w\- ]", "", heading.lower()).strip().replace(" ", "-") for heading in HEADING.findall(text)}
 
 
+def wrong_contents(path, text):
+    """The sections of a page of docs/formats to which its contents, before the first section, have no link."""
+    if path.startswith("docs/formats/"):
+        begin = text.index("\n## ")
+        for found in re.finditer(r"^## .*$", text, re.M):
+            (name,) = sections(found[0])
+            if f"(#{name})" not in text[:begin]:
+                yield found.start(), f"the page's contents lack {name}"
+
+
 def wrong_links(path, text, pages):
     """The links of a page that lead nowhere, each with the place in the text."""
     for found in LINK.finditer(text):
@@ -166,7 +176,7 @@ def main(_words):
     for path, text in kept.items():
         found = [] if path == "CHANGELOG.md" else [*wrong_tools(text)]
         if path in pages:
-            found += wrong_links(path, text, pages)
+            found += [*wrong_links(path, text, pages), *wrong_contents(path, text)]
             found += [*wrong_options(text), *wrong_places(text)] if path != "CHANGELOG.md" else []
             found += sources.wrong_names(text) if path != "CHANGELOG.md" else []
         for place, why in found:
