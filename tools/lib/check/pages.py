@@ -4,9 +4,9 @@
 
 A tool is what is named in backticks, at the beginning of a line or after `$here/`; of one that has commands the command
 has to be there too, and its file has to know the options. A link of a page leads to a file of the repository, or to a
-section of a page by its heading. In backticks on a page, a name with `_` or `::` has to be a word of the sources, a file's
-name the end of a file's path, and a command of `rt` one that it lists; a file after a name declares that name. A page of
-docs/formats begins with links to its sections. CHANGELOG may name what is no more.
+section of a page by its heading. In backticks on a page, a name with `_`, `::` or a capital within has to be a word of
+the sources, a file's name the end of a file's path, and a command of `rt` one that it lists; a file after a name declares
+that name. A page of docs/formats begins with links to its sections. CHANGELOG may name what is no more.
 """
 import functools
 import os
@@ -24,13 +24,13 @@ ENDINGS = (".md", ".rt", ".antt", ".py", ".sh", ".rs", ".go")
 WITH_COMMANDS = {tool: commands(tool) for tool in os.listdir(LIB) if os.path.isfile(f"{LIB}/{tool}/__init__.py")}
 FENCED = re.compile(r"^```.*?^```$", re.M | re.S)
 SPAN = re.compile(r"(?<!`)`(?!`)([^`\n]+)`")
-CALL = re.compile(r"(?=\w*_|\w+::)[A-Za-z_]\w*(?:::\w+)*")
+CALL = re.compile(r"(?=\w*_|\w+::|\w*[a-z][A-Z])[A-Za-z_]\w*(?:::\w+)*")
 FILE = re.compile(r"(?:[\w+-]+/)*[\w+-]+\.(?:rt|antt|edit)")
 RT = re.compile(r"rt ([a-z-]+)(?: [^ ]+)*")
 CALLED = re.compile(r"\btools/([\w/-]*\w)((?: +[^\s`|&;<>()]+)+)")
 DECLARED = re.compile(r"`(\w+)`(?:\*\*,| \() ?`(crates/[\w/]+\.(?:antt|rt))`")
 # names of others, and forms of names
-NOT_OURS = {"node_modules", "try_collect", "Arc::ptr_eq", "MOST_X", "most_x", "proofs/laws/NAME/Answers.antt"}
+NOT_OURS = {"FollowLinks", "OnBuild", "node_modules", "try_collect", "Arc::ptr_eq", "MOST_X", "most_x", "proofs/laws/NAME/Answers.antt"}
 
 
 def texts():
