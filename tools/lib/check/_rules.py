@@ -27,7 +27,11 @@ META = re.compile(r"^ with (\d{4}) and (\d+):(\d+)")
 LINE = re.compile(r"^ at line (\d+)")
 # what the examples are given, as the pages say
 CONTEXT = {"/a/f1": "1", "/b/g": "2", "/f": "3", "/g": "4"}
-IMAGES = {"img": {"config": {**PLAIN, "config": {"Env": ["i=image"], "Cmd": ["x"]}}, "tree": [{"path": "/i", "text": "i"}]}}
+FORGOTTEN = {"Shell": ["/bin/bash", "-c"], "OnBuild": ["RUN x"], "Healthcheck": {"Test": ["NONE"]}}
+IMAGES = {
+    "img": {"config": {**PLAIN, "config": {"Env": ["i=image"], "Cmd": ["x"]}}, "tree": [{"path": "/i", "text": "i"}]},
+    "base": {"config": {**PLAIN, "config": FORGOTTEN}, "tree": []},
+}
 
 
 class Table(NamedTuple):
