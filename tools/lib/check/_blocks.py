@@ -45,8 +45,9 @@ class Block(NamedTuple):
 def pages():
     """The pages whose blocks are run, by their paths."""
     yield "README.md"
-    for folder, _, names in sorted(os.walk(f"{TOP}/docs")):
-        yield from sorted(os.path.relpath(f"{folder}/{name}", TOP) for name in names if name.endswith(".md"))
+    for part in ("docs", "examples"):
+        for folder, _, names in sorted(os.walk(f"{TOP}/{part}")):
+            yield from sorted(os.path.relpath(f"{folder}/{name}", TOP) for name in names if name == "README.md" or part == "docs" and name.endswith(".md"))
 
 
 def blocks_of(page):
