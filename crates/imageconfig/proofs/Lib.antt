@@ -7,4 +7,5 @@ mod NameFacts
 mod PutFacts
 mod ReadFacts
 mod RowFacts
+mod SameFacts
 mod StepFacts

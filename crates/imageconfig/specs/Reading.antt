@@ -51,9 +51,13 @@ abbrev pub member_keys : Members → List (List ℕ)
 member_keys no_members = []
 member_keys (member key d members) = key ∷ member_keys members
 
+-- the keys of a value that is an object
+abbrev pub keys_in : Data → Option (List (List ℕ))
+keys_in d = option_map member_keys (as_object d)
+
 -- ExposedPorts and Volumes: the keys of an object, whose values are forgotten
 unfoldable pub names_in : Data → Option (List (List ℕ))
-names_in d = option_map (λ members. add_names [] (member_keys members)) (as_object d)
+names_in d = option_map (add_names []) (keys_in d)
 
 -- Labels: an object of texts
 unfoldable pub labels_in : Data → Option (List Row)

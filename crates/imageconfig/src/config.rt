@@ -4,12 +4,12 @@ ghost use Rattle.serde_json.specs.View.{view};
 ghost use Rattle.serde_json.specs.Written.{has_float};
 ghost use Rattle.instructions.specs.Instruction.{IsInstruction};
 ghost use Rattle.scopes.specs.Scope.{value_in, is_environment_name, names_of as variable_names};
-ghost use Rattle.imageconfig.specs.Reading.{plain};
+ghost use Rattle.strict.specs.Gives.{Gives};
+ghost use Rattle.imageconfig.specs.Reading.{plain, config_in};
 ghost use Rattle.imageconfig.specs.Writing.{config_data};
 ghost use Rattle.imageconfig.specs.Steps.{dir_of, child_of, with_variables, IsApplied};
 
 use crate::changing::change;
-use crate::copying::copied_config;
 use crate::environment::Environment;
 use crate::fields::bare;
 use crate::names::Names;
@@ -60,6 +60,17 @@ impl Config {
         bare(alloc, keys, architecture, os)
     }
 
+    /// The configuration that a value is (OCI image specification). Its names are found by a hash with these keys.
+    ///
+    /// `NotRead` where the value is none: a key is missing that has to be there, a value has a wrong type, as a `config` that is `null` has,
+    /// while a field of it that is `null` counts as absent; `rootfs` has another `type` than `layers`, or a key beside `type` and `diff_ids`; a
+    /// variable has no `=`, no name, or one that is there before; a working directory that isn't the empty text isn't absolute, or breaks a limit.
+    pub fn from_json(alloc: Global, keys: RandomState, value: &Value) -> Result<Config, ReadFault>
+        ensures { Gives result (config_in (view value.now)) }
+    {
+        read_config(alloc, keys, value)
+    }
+
     /// The configuration as JSON (OCI image specification): the fields that are set, and no layers. No number in it is a float.
     #[tactic(auto, using(crate::proofs::FloatFacts::config_is_plain))]
     pub fn to_json(&self, alloc: Global) -> Result<Value, Memory>
@@ -69,19 +80,12 @@ impl Config {
         config_value(alloc, self)
     }
 
-    /// An equal configuration of its own.
-    pub fn copy(&self, alloc: Global) -> Result<Config, Memory>
-        ensures { IfOk result (λ copied. copied ≡ self.now) }
-    {
-        copied_config(alloc, self)
-    }
-
     /// What a stage begins with whose base has this configuration: the base's Cmd isn't the stage's own. A base that is a stage is a base like
     /// any other: the Cmd that it set itself counts as the base's in the stage after it.
     pub fn child(&self, alloc: Global) -> Result<Config, Memory>
         ensures { IfOk result (λ child. child ≡ child_of self.now) }
     {
-        let mut child = copied_config(alloc, self)?;
+        let mut child = self.copy(alloc)?;
         child.cmd_is_own = false;
         Ok(child)
     }
@@ -141,14 +145,9 @@ impl Config {
 }
 
 impl FromLentKeyed for Config {
-    ghost use Rattle.imageconfig.specs.Reading.{config_in};
-
     ghost reading = { config_in };
 
-    /// An image's configuration (OCI image specification). `NotRead` where the value isn't one: a key is missing that has to be there, a
-    /// value has a wrong type, as a `config` that is `null` has, while a field of it that is `null` counts as absent; `rootfs` has another `type`
-    /// than `layers`, or a key beside `type` and `diff_ids`; a variable has no `=`, no name, or one that is there before; a working directory
-    /// that isn't the empty text isn't absolute, or breaks a limit.
+    /// The configuration that a lent value is, as `Config::from_json`: a bundle's texts needn't be copied to be read.
     fn from_lent_keyed(
         alloc: Global,
         keys: RandomState,

@@ -11,7 +11,7 @@ ghost use Rattle.imageconfig.specs.Writing.{variable_data};
 
 use crate::rows::{Rows, variable_rows};
 use indexmap::map::Slice;
-use plain::{Items, Memory, Text, Variable};
+use plain::{Exact, Items, Memory, Text, Variable};
 use serde_json::Value;
 use std::alloc::Global;
 use std::hash::RandomState;
@@ -87,14 +87,6 @@ impl Environment {
         self.rows.set_all(rows)
     }
 
-    /// An equal environment of its own.
-    pub fn copy(&self, alloc: Global) -> Result<Environment, Memory>
-        ensures { IfOk result (λ copied. copied ≡ self.now) }
-    {
-        let rows = self.rows.copy(alloc)?;
-        Ok(Environment { rows })
-    }
-
     /// Whether there is no variable.
     pub fn is_empty(&self) -> bool
         ensures { result ≡ (length self.now == 0) }
@@ -120,5 +112,16 @@ impl Environment {
         ensures { IfOk result (λ v. view v ≡ list_data variable_data self.now) }
     {
         self.rows.to_list(alloc)
+    }
+}
+
+impl Exact for Environment {
+    fn same(&self, other: &Environment) -> bool {
+        self.rows.same(&other.rows)
+    }
+
+    fn copy(&self, alloc: Global) -> Result<Environment, Memory> {
+        let rows = self.rows.copy(alloc)?;
+        Ok(Environment { rows })
     }
 }

@@ -7,20 +7,22 @@
 // due for it, and what is against its texts; `config_in` in specs/Reading.antt and `config_data` in specs/Writing.antt, what a configuration is in JSON.
 //
 // ```
-// let mut config = Config::plain(alloc)?;
-// config.apply(alloc, &instruction, &scope)?;       // of `CMD ["a"]`
-// config.to_json(alloc)?                            // .. "config":{"Cmd":["a"]} ..
+// let mut config = Config::plain(alloc, keys)?;
+// config.apply(alloc, &instruction, &scope)?;             // of `CMD ["a"]`
+// let value = config.to_json(alloc)?;                     // .. "config":{"Cmd":["a"]} ..
+// let read = Config::from_json(alloc, keys, &value)?;     // the same, with a Cmd that isn't a stage's own
 // ```
 #![tactic(auto)]
 
 mod boxed;
 mod changing;
 mod config;
-mod copying;
 mod environment;
+mod exact;
 mod fields;
 pub mod laws;
 mod line;
+mod looked;
 mod names;
 mod ports;
 mod reading;

@@ -1,4 +1,4 @@
-ghost use Rattle.std.specs.Prelude.{◌≡◌, ◌==◌, [], length, map, IfOk, OnOk, OnErr};
+ghost use Rattle.std.specs.Prelude.{◌≡◌, ◌==◌, ◌↔◌, [], length, map, IsTrue, IfOk, OnOk, OnErr};
 ghost use Rattle.std.specs.String.{string_bytes};
 ghost use Rattle.serde_json.specs.View.{view, members_view};
 ghost use Rattle.serde_json.specs.Data.{no_members};
@@ -8,7 +8,7 @@ ghost use Rattle.imageconfig.specs.Rows.{add_names};
 ghost use Rattle.imageconfig.specs.Writing.{put_names, names_data};
 
 use named::{NamedRows, Present};
-use plain::{Items, Memory, Text};
+use plain::{Exact, Items, Memory, Text};
 use serde_json::{Map, Value};
 use std::alloc::Global;
 use std::hash::RandomState;
@@ -50,14 +50,6 @@ impl Names {
         self.names.is_empty()
     }
 
-    /// Equal names of its own.
-    pub fn copy(&self, alloc: Global) -> Result<Names, Memory>
-        ensures { IfOk result (λ copied. copied ≡ self.now) }
-    {
-        let names = self.names.copy(alloc)?;
-        Ok(Names { names })
-    }
-
     /// Adds names, but for those that are there. After `Memory` the names are as they were.
     pub(crate) fn add_all(&mut self, alloc: Global, names: Items<Text>) -> Result<(), Memory>
         ensures ok { OnOk result (self.new ≡ add_names self.old names) }
@@ -84,6 +76,24 @@ impl Names {
         let text = value.to_string(alloc)?;
         Ok(text)
     }
+}
+
+impl Exact for Names {
+    fn same(&self, other: &Names) -> bool {
+        are_names_same(&self.names, &other.names)
+    }
+
+    fn copy(&self, alloc: Global) -> Result<Names, Memory> {
+        let names = self.names.copy(alloc)?;
+        Ok(Names { names })
+    }
+}
+
+/// Whether two sets have the same names in the same order.
+fn are_names_same(these: &NamedRows<Present>, those: &NamedRows<Present>) -> bool
+    ensures { IsTrue result ↔ (of_names these.now ≡ of_names those.now) }
+{
+    these.as_slice().keys().as_slice() == those.as_slice().keys().as_slice()
 }
 
 /// Names as rows of a set.

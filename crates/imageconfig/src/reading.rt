@@ -5,18 +5,16 @@ ghost use Rattle.options.specs.Lists.{all_some};
 ghost use Rattle.paths.specs.Reading.{is_absolute};
 ghost use Rattle.strict.specs.Gives.{Gives};
 ghost use Rattle.strict.specs.Strict.{all_in, list_in};
-ghost use Rattle.borrowed.specs.Lent.{items_data};
-ghost use Rattle.borrowed.specs.Seen.{data_of};
+ghost use Rattle.serde_json.specs.View.{items_of};
 ghost use Rattle.imageconfig.specs.Reading.{set_at, field, cut_row, env_in, names_in, labels_in, dir_of_text, dir_in, lists_in, objects_in, texts_in, groups_in, joined, fields_in, settings_in, rootfs_in, config_in};
 ghost use Rattle.imageconfig.specs.Rows.{add_names};
 
 use crate::config::Config;
 use crate::environment::Environment;
 use crate::fields::{Basics, Lists, Objects, Texts, bare, default_shell, put_together};
+use crate::looked::Looked;
 use crate::names::Names;
 use crate::rows::Rows;
-use borrowed::{FromLent, at, is_null, is_strict, list_of, one_at, read_rows, text_of};
-use json::Value;
 use paths::Path;
 use plain::{Fault, Items, Memory, Text};
 use std::alloc::Global;
@@ -24,20 +22,40 @@ use std::hash::RandomState;
 use strict::{NotRead, ReadFault};
 
 /// What stands at a key; `null` is as absent.
-fn set_at<'v, 'a>(value: &'v Value<'a>, key: &str) -> Option<&'v Value<'a>>
-    ensures { option_map (λ v. data_of v.now) result ≡ set_at key.now (data_of value.now) }
+fn set_at<'v, J: Looked>(value: &'v J, key: &str) -> Option<&'v J>
+    ensures { option_map (λ v. J.meaning v.now) result ≡ set_at key.now (J.meaning value.now) }
 {
-    match at(value, key) {
-        Some(value) => { if is_null(value) { None } else { Some(value) } }
+    match value.at(key) {
+        Some(value) => { if value.is_null() { None } else { Some(value) } }
         None => None,
     }
 }
 
-/// A text, whose copies share its bytes.
-fn shared_text(alloc: Global, value: &Value<'_>) -> Result<Text, ReadFault>
-    ensures { Gives result (as_str (data_of value.now)) }
+/// A text.
+fn text_in<J: Looked>(alloc: Global, value: &J) -> Result<Text, ReadFault>
+    ensures { Gives result (as_str (J.meaning value.now)) }
 {
-    let text = Text::from_lent(alloc, value)?;
+    let Some(text) = value.text() else {
+        return Err(Fault::Because(NotRead));
+    };
+    Ok(Text::from_str(alloc, text)?)
+}
+
+/// A text that stands at a key and has to be there.
+fn one_text_at<J: Looked>(alloc: Global, value: &J, key: &str) -> Result<Text, ReadFault>
+    ensures { Gives result (option_and_then as_str (get key.now (J.meaning value.now))) }
+{
+    match value.at(key) {
+        Some(value) => text_in(alloc, value),
+        None => Err(Fault::Because(NotRead)),
+    }
+}
+
+/// A text, whose copies share its bytes.
+fn shared_text<J: Looked>(alloc: Global, value: &J) -> Result<Text, ReadFault>
+    ensures { Gives result (as_str (J.meaning value.now)) }
+{
+    let text = text_in(alloc, value)?;
     Ok(text.shared(alloc)?)
 }
 
@@ -54,18 +72,18 @@ fn shared_rows(alloc: Global, rows: Items<(Text, Text)>) -> Result<Items<(Text, 
 
 /// A list of texts, whose copies share their bytes.
 #[tactic(auto, unfolding(strict::specs::Strict::list_in))]
-fn shared_list(alloc: Global, value: &Value<'_>) -> Result<Items<Text>, ReadFault>
-    ensures { Gives result (list_in as_str (data_of value.now)) }
+fn shared_list<J: Looked>(alloc: Global, value: &J) -> Result<Items<Text>, ReadFault>
+    ensures { Gives result (list_in as_str (J.meaning value.now)) }
 {
-    match list_of(value) {
+    match value.list() {
         Some(values) => shared_texts(alloc, values),
         None => Err(Fault::Because(NotRead)),
     }
 }
 
 /// The texts that some values are, whose copies share their bytes.
-fn shared_texts(alloc: Global, values: &[Value<'_>]) -> Result<Items<Text>, ReadFault>
-    ensures { Gives result (all_in as_str (items_data values.now)) }
+fn shared_texts<J: Looked>(alloc: Global, values: &[J]) -> Result<Items<Text>, ReadFault>
+    ensures { Gives result (all_in as_str (items_of (map J.meaning values.now))) }
 {
     let mut texts = Items::new(alloc);
     for value in values {
@@ -75,8 +93,8 @@ fn shared_texts(alloc: Global, values: &[Value<'_>]) -> Result<Items<Text>, Read
 }
 
 /// A list of texts that stands at a key, empty where none does.
-fn texts_at(alloc: Global, value: &Value<'_>, key: &str) -> Result<Items<Text>, ReadFault>
-    ensures { Gives result (field [] (list_in as_str) key.now (data_of value.now)) }
+fn texts_at<J: Looked>(alloc: Global, value: &J, key: &str) -> Result<Items<Text>, ReadFault>
+    ensures { Gives result (field [] (list_in as_str) key.now (J.meaning value.now)) }
 {
     match set_at(value, key) {
         Some(value) => shared_list(alloc, value),
@@ -85,8 +103,8 @@ fn texts_at(alloc: Global, value: &Value<'_>, key: &str) -> Result<Items<Text>, 
 }
 
 /// A text that stands at a key, empty where none does.
-fn text_at(alloc: Global, value: &Value<'_>, key: &str) -> Result<Text, ReadFault>
-    ensures { Gives result (field [] as_str key.now (data_of value.now)) }
+fn text_at<J: Looked>(alloc: Global, value: &J, key: &str) -> Result<Text, ReadFault>
+    ensures { Gives result (field [] as_str key.now (J.meaning value.now)) }
 {
     match set_at(value, key) {
         Some(value) => shared_text(alloc, value),
@@ -124,8 +142,12 @@ fn cut_rows(alloc: Global, texts: &[Text]) -> Result<Items<(Text, Text)>, ReadFa
 
 /// An environment: a list of texts `NAME=VALUE`, no name twice.
 #[tactic(auto, unfolding(crate::specs::Reading::env_in))]
-fn read_env(alloc: Global, keys: RandomState, value: &Value<'_>) -> Result<Environment, ReadFault>
-    ensures { Gives result (env_in (data_of value.now)) }
+fn read_env<J: Looked>(
+    alloc: Global,
+    keys: RandomState,
+    value: &J,
+) -> Result<Environment, ReadFault>
+    ensures { Gives result (env_in (J.meaning value.now)) }
 {
     let texts = shared_list(alloc, value)?;
     let rows = cut_rows(alloc, texts.as_slice())?;
@@ -133,13 +155,13 @@ fn read_env(alloc: Global, keys: RandomState, value: &Value<'_>) -> Result<Envir
 }
 
 /// An environment that stands at a key, empty where none does.
-fn env_at(
+fn env_at<J: Looked>(
     alloc: Global,
     keys: RandomState,
-    value: &Value<'_>,
+    value: &J,
     key: &str,
 ) -> Result<Environment, ReadFault>
-    ensures { Gives result (field [] env_in key.now (data_of value.now)) }
+    ensures { Gives result (field [] env_in key.now (J.meaning value.now)) }
 {
     match set_at(value, key) {
         Some(value) => read_env(alloc, keys, value),
@@ -147,63 +169,25 @@ fn env_at(
     }
 }
 
-/// A value that is forgotten.
-#[derive(Drop)]
-struct Forgotten;
-
-impl FromLent for Forgotten {
-    ghost use Rattle.std.specs.Prelude.{Some};
-
-    ghost reading = { λ d. Some (record {}) };
-
-    fn from_lent(_alloc: Global, _value: &Value<'_>) -> Result<Forgotten, ReadFault> {
-        Ok(Forgotten)
-    }
-}
-
-/// The keys of rows, in their order.
-fn keys_of(alloc: Global, rows: Items<(Text, Forgotten)>) -> Result<Items<Text>, Memory>
-    ensures { IfOk result (λ keys. keys ≡ map (λ row. row.0) rows) }
+/// The keys of an object, whose values are forgotten.
+#[tactic(auto, unfolding(crate::specs::Reading::names_in))]
+fn read_names<J: Looked>(alloc: Global, keys: RandomState, value: &J) -> Result<Names, ReadFault>
+    ensures { Gives result (names_in (J.meaning value.now)) }
 {
-    let mut keys = Items::new(alloc);
-    for (key, _) in rows.into_vec() {
-        keys.push(key)?;
-    }
-    Ok(keys)
-}
-
-/// The names that are the keys of rows.
-fn names_of(
-    alloc: Global,
-    keys: RandomState,
-    rows: Items<(Text, Forgotten)>,
-) -> Result<Names, Memory>
-    ensures { IfOk result (λ names. names ≡ add_names [] (map (λ row. row.0) rows)) }
-{
-    let listed = keys_of(alloc, rows)?;
+    let listed = value.keys(alloc)?;
     let mut names = Names::new(alloc, keys);
     names.add_all(alloc, listed)?;
     Ok(names)
 }
 
-/// The keys of an object, whose values are forgotten.
-fn read_names(alloc: Global, keys: RandomState, value: &Value<'_>) -> Result<Names, ReadFault>
-    ensures { Gives result (names_in (data_of value.now)) }
-{
-    match read_rows::<Forgotten>(alloc, value) {
-        Ok(rows) => Ok(names_of(alloc, keys, rows)?),
-        Err(fault) => Err(fault),
-    }
-}
-
 /// The keys of an object that stands at a key, none where none does.
-fn names_at(
+fn names_at<J: Looked>(
     alloc: Global,
     keys: RandomState,
-    value: &Value<'_>,
+    value: &J,
     key: &str,
 ) -> Result<Names, ReadFault>
-    ensures { Gives result (field [] names_in key.now (data_of value.now)) }
+    ensures { Gives result (field [] names_in key.now (J.meaning value.now)) }
 {
     match set_at(value, key) {
         Some(value) => read_names(alloc, keys, value),
@@ -213,10 +197,10 @@ fn names_at(
 
 /// Labels: an object of texts.
 #[tactic(auto, unfolding(crate::specs::Reading::labels_in))]
-fn read_labels(alloc: Global, keys: RandomState, value: &Value<'_>) -> Result<Rows, ReadFault>
-    ensures { Gives result (labels_in (data_of value.now)) }
+fn read_labels<J: Looked>(alloc: Global, keys: RandomState, value: &J) -> Result<Rows, ReadFault>
+    ensures { Gives result (labels_in (J.meaning value.now)) }
 {
-    let texts = read_rows::<Text>(alloc, value)?;
+    let texts = value.text_rows(alloc)?;
     let texts = shared_rows(alloc, texts)?;
     let mut rows = Rows::new(alloc, keys);
     rows.set_all(texts)?;
@@ -224,13 +208,13 @@ fn read_labels(alloc: Global, keys: RandomState, value: &Value<'_>) -> Result<Ro
 }
 
 /// Labels that stand at a key, none where none do.
-fn labels_at(
+fn labels_at<J: Looked>(
     alloc: Global,
     keys: RandomState,
-    value: &Value<'_>,
+    value: &J,
     key: &str,
 ) -> Result<Rows, ReadFault>
-    ensures { Gives result (field [] labels_in key.now (data_of value.now)) }
+    ensures { Gives result (field [] labels_in key.now (J.meaning value.now)) }
 {
     match set_at(value, key) {
         Some(value) => read_labels(alloc, keys, value),
@@ -267,18 +251,18 @@ fn is_absolute(bytes: &[u8]) -> bool
 
 /// A working directory.
 #[tactic(auto, unfolding(crate::specs::Reading::dir_in))]
-fn read_dir(alloc: Global, value: &Value<'_>) -> Result<Option<Path>, ReadFault>
-    ensures { Gives result (dir_in (data_of value.now)) }
+fn read_dir<J: Looked>(alloc: Global, value: &J) -> Result<Option<Path>, ReadFault>
+    ensures { Gives result (dir_in (J.meaning value.now)) }
 {
-    let Some(text) = text_of(value) else {
+    let Some(text) = value.text() else {
         return Err(Fault::Because(NotRead));
     };
     dir_of_text(alloc, text)
 }
 
 /// A working directory that stands at a key, if one does.
-fn dir_at(alloc: Global, value: &Value<'_>, key: &str) -> Result<Option<Path>, ReadFault>
-    ensures { Gives result (field None dir_in key.now (data_of value.now)) }
+fn dir_at<J: Looked>(alloc: Global, value: &J, key: &str) -> Result<Option<Path>, ReadFault>
+    ensures { Gives result (field None dir_in key.now (J.meaning value.now)) }
 {
     match set_at(value, key) {
         Some(value) => read_dir(alloc, value),
@@ -288,8 +272,8 @@ fn dir_at(alloc: Global, value: &Value<'_>, key: &str) -> Result<Option<Path>, R
 
 /// The fields of `config` that are lists.
 #[tactic(auto, unfolding(crate::specs::Reading::lists_in))]
-fn read_lists(alloc: Global, keys: RandomState, value: &Value<'_>) -> Result<Lists, ReadFault>
-    ensures { Gives result (lists_in (data_of value.now)) }
+fn read_lists<J: Looked>(alloc: Global, keys: RandomState, value: &J) -> Result<Lists, ReadFault>
+    ensures { Gives result (lists_in (J.meaning value.now)) }
 {
     let cmd = texts_at(alloc, value, "Cmd")?;
     let entrypoint = texts_at(alloc, value, "Entrypoint")?;
@@ -303,8 +287,12 @@ fn read_lists(alloc: Global, keys: RandomState, value: &Value<'_>) -> Result<Lis
 
 /// The fields of `config` that are objects.
 #[tactic(auto, unfolding(crate::specs::Reading::objects_in))]
-fn read_objects(alloc: Global, keys: RandomState, value: &Value<'_>) -> Result<Objects, ReadFault>
-    ensures { Gives result (objects_in (data_of value.now)) }
+fn read_objects<J: Looked>(
+    alloc: Global,
+    keys: RandomState,
+    value: &J,
+) -> Result<Objects, ReadFault>
+    ensures { Gives result (objects_in (J.meaning value.now)) }
 {
     let exposed_ports = names_at(alloc, keys, value, "ExposedPorts")?;
     match labels_at(alloc, keys, value, "Labels") {
@@ -329,8 +317,8 @@ fn read_objects(alloc: Global, keys: RandomState, value: &Value<'_>) -> Result<O
 
 /// The fields of `config` that are texts.
 #[tactic(auto, unfolding(crate::specs::Reading::texts_in))]
-fn read_texts(alloc: Global, value: &Value<'_>) -> Result<Texts, ReadFault>
-    ensures { Gives result (texts_in (data_of value.now)) }
+fn read_texts<J: Looked>(alloc: Global, value: &J) -> Result<Texts, ReadFault>
+    ensures { Gives result (texts_in (J.meaning value.now)) }
 {
     let stop_signal = text_at(alloc, value, "StopSignal")?;
     let user = text_at(alloc, value, "User")?;
@@ -374,29 +362,31 @@ fn joined(
 }
 
 /// The configuration whose `config` this is.
-fn read_settings(
+fn read_settings<J: Looked>(
     alloc: Global,
     keys: RandomState,
     architecture: Text,
     os: Text,
-    value: &Value<'_>,
+    value: &J,
 ) -> Result<Config, ReadFault>
-    ensures { Gives result (settings_in architecture os (data_of value.now)) }
+    ensures { Gives result (settings_in architecture os (J.meaning value.now)) }
 {
-    match value {
-        Value::Object(_) => read_fields(alloc, keys, architecture, os, value),
-        _ => Err(Fault::Because(NotRead)),
+    if value.is_object() {
+        return read_fields(alloc, keys, architecture, os, value);
     }
+    drop(architecture);
+    drop(os);
+    Err(Fault::Because(NotRead))
 }
 
 /// The fields of `config`, in their groups.
 #[tactic(auto, unfolding(crate::specs::Reading::groups_in))]
-fn read_groups(
+fn read_groups<J: Looked>(
     alloc: Global,
     keys: RandomState,
-    value: &Value<'_>,
+    value: &J,
 ) -> Result<(Lists, Objects, Texts), ReadFault>
-    ensures { Gives result (groups_in (data_of value.now)) }
+    ensures { Gives result (groups_in (J.meaning value.now)) }
 {
     let lists = read_lists(alloc, keys, value)?;
     match read_objects(alloc, keys, value) {
@@ -417,14 +407,14 @@ fn read_groups(
 
 /// The configuration whose fields are read.
 #[tactic(auto, unfolding(crate::specs::Reading::fields_in))]
-fn read_fields(
+fn read_fields<J: Looked>(
     alloc: Global,
     keys: RandomState,
     architecture: Text,
     os: Text,
-    value: &Value<'_>,
+    value: &J,
 ) -> Result<Config, ReadFault>
-    ensures { Gives result (fields_in architecture os (data_of value.now)) }
+    ensures { Gives result (fields_in architecture os (J.meaning value.now)) }
 {
     match read_groups(alloc, keys, value) {
         Ok((lists, objects, texts)) => joined(alloc, architecture, os, lists, objects, texts),
@@ -438,15 +428,15 @@ fn read_fields(
 
 /// The layers of `rootfs`, which are then forgotten.
 #[tactic(auto, unfolding(crate::specs::Reading::rootfs_in))]
-fn read_rootfs(alloc: Global, value: &Value<'_>) -> Result<Items<Text>, ReadFault>
-    ensures { Gives result (rootfs_in (data_of value.now)) }
+fn read_rootfs<J: Looked>(alloc: Global, value: &J) -> Result<Items<Text>, ReadFault>
+    ensures { Gives result (rootfs_in (J.meaning value.now)) }
 {
-    if !is_strict(value, &["diff_ids", "type"]) {
+    if !value.is_strict(&["diff_ids", "type"]) {
         return Err(Fault::Because(NotRead));
     }
-    let kind = one_at::<Text>(alloc, value, "type")?;
+    let kind = one_text_at(alloc, value, "type")?;
     if kind.as_str() == "layers" {
-        match at(value, "diff_ids") {
+        match value.at("diff_ids") {
             Some(value) => shared_list(alloc, value),
             None => Err(Fault::Because(NotRead)),
         }
@@ -456,10 +446,10 @@ fn read_rootfs(alloc: Global, value: &Value<'_>) -> Result<Items<Text>, ReadFaul
 }
 
 /// The layers of the `rootfs` of a configuration.
-fn rootfs_at(alloc: Global, value: &Value<'_>) -> Result<Items<Text>, ReadFault>
-    ensures { Gives result (option_and_then rootfs_in (get (codes "rootfs") (data_of value.now))) }
+fn rootfs_at<J: Looked>(alloc: Global, value: &J) -> Result<Items<Text>, ReadFault>
+    ensures { Gives result (option_and_then rootfs_in (get (codes "rootfs") (J.meaning value.now))) }
 {
-    match at(value, "rootfs") {
+    match value.at("rootfs") {
         Some(value) => read_rootfs(alloc, value),
         None => Err(Fault::Because(NotRead)),
     }
@@ -467,17 +457,17 @@ fn rootfs_at(alloc: Global, value: &Value<'_>) -> Result<Items<Text>, ReadFault>
 
 /// The configuration that a value is.
 #[tactic(auto, unfolding(crate::specs::Reading::config_in))]
-pub(crate) fn read_config(
+pub(crate) fn read_config<J: Looked>(
     alloc: Global,
     keys: RandomState,
-    value: &Value<'_>,
+    value: &J,
 ) -> Result<Config, ReadFault>
-    ensures { Gives result (config_in (data_of value.now)) }
+    ensures { Gives result (config_in (J.meaning value.now)) }
 {
-    let architecture = one_at::<Text>(alloc, value, "architecture")?;
-    let os = one_at::<Text>(alloc, value, "os")?;
+    let architecture = one_text_at(alloc, value, "architecture")?;
+    let os = one_text_at(alloc, value, "os")?;
     let _layers = rootfs_at(alloc, value)?;
-    match at(value, "config") {
+    match value.at("config") {
         Some(settings) => read_settings(alloc, keys, architecture, os, settings),
         None => Ok(bare(alloc, keys, architecture, os)?),
     }

@@ -1,4 +1,4 @@
-ghost use Rattle.std.specs.Prelude.{◌≡◌, ◌==◌, [], length, map, IfOk, OnOk, OnErr};
+ghost use Rattle.std.specs.Prelude.{◌≡◌, ◌==◌, ◌↔◌, [], length, map, IsTrue, IfOk, OnOk, OnErr};
 ghost use Rattle.serde_json.specs.View.{view, members_view, items_view, items_of};
 ghost use Rattle.serde_json.specs.Data.{no_members};
 ghost use Rattle.strict.specs.Gives.{Gives};
@@ -59,14 +59,6 @@ impl Rows {
         self.rows.as_slice()
     }
 
-    /// Equal rows of its own.
-    pub fn copy(&self, alloc: Global) -> Result<Rows, Memory>
-        ensures { IfOk result (λ copied. copied ≡ self.now) }
-    {
-        let rows = self.rows.copy(alloc)?;
-        Ok(Rows { rows })
-    }
-
     /// Rows of which none may have another one's name. `NotRead` where two have the same.
     pub(crate) fn once(
         alloc: Global,
@@ -122,6 +114,24 @@ impl Rows {
         let members = members(alloc, &self.rows)?;
         Ok(Value::Object(members))
     }
+}
+
+impl Exact for Rows {
+    fn same(&self, other: &Rows) -> bool {
+        are_rows_same(&self.rows, &other.rows)
+    }
+
+    fn copy(&self, alloc: Global) -> Result<Rows, Memory> {
+        let rows = self.rows.copy(alloc)?;
+        Ok(Rows { rows })
+    }
+}
+
+/// Whether two lists of rows are the same.
+fn are_rows_same(these: &NamedRows<Text>, those: &NamedRows<Text>) -> bool
+    ensures { IsTrue result ↔ (these.now ≡ those.now) }
+{
+    these.as_slice() == those.as_slice()
 }
 
 /// Variables as rows.

@@ -1,4 +1,6 @@
-ghost use Rattle.std.specs.Prelude.{◌≡◌, IfOk};
+// Configurations are compared and copied group by group, so that each step has few values to let go.
+
+ghost use Rattle.std.specs.Prelude.{◌≡◌, ◌↔◌, IsTrue, IfOk};
 ghost use Rattle.imageconfig.specs.PrivateFields.{basics_of, lists_of, objects_of, texts_of, together};
 
 use crate::config::Config;
@@ -7,15 +9,56 @@ use paths::Path;
 use plain::{Exact, Memory};
 use std::alloc::Global;
 
-/// An equal configuration of its own. It is copied group by group, so that each step has few values to let go.
-pub(crate) fn copied_config(alloc: Global, config: &Config) -> Result<Config, Memory>
-    ensures { IfOk result (λ copied. copied ≡ config.now) }
-{
-    let basics = copied_basics(alloc, config)?;
-    copied_with_basics(alloc, config, basics)
+impl Exact for Config {
+    fn same(&self, other: &Config) -> bool {
+        are_basics_same(self, other)
+            && are_texts_same(self, other)
+            && are_objects_same(self, other)
+            && are_lists_same(self, other)
+            && self.cmd_is_own == other.cmd_is_own
+    }
+
+    fn copy(&self, alloc: Global) -> Result<Config, Memory> {
+        let basics = copied_basics(alloc, self)?;
+        copied_with_basics(alloc, self, basics)
+    }
 }
 
-/// The same, with the fields that are always set.
+/// Whether two configurations have the same fields that are always set.
+fn are_basics_same(this: &Config, that: &Config) -> bool
+    ensures { IsTrue result ↔ (basics_of this.now ≡ basics_of that.now) }
+{
+    this.architecture.same(&that.architecture)
+        && this.os.same(&that.os)
+        && this.shell.same(&that.shell)
+}
+
+/// Whether two configurations have the same lists.
+fn are_lists_same(this: &Config, that: &Config) -> bool
+    ensures { IsTrue result ↔ (lists_of this.now ≡ lists_of that.now) }
+{
+    this.cmd.same(&that.cmd) && this.entrypoint.same(&that.entrypoint) && this.env.same(&that.env)
+}
+
+/// Whether two configurations have the same objects.
+fn are_objects_same(this: &Config, that: &Config) -> bool
+    ensures { IsTrue result ↔ (objects_of this.now ≡ objects_of that.now) }
+{
+    this.exposed_ports.same(&that.exposed_ports)
+        && this.labels.same(&that.labels)
+        && this.volumes.same(&that.volumes)
+}
+
+/// Whether two configurations have the same texts.
+fn are_texts_same(this: &Config, that: &Config) -> bool
+    ensures { IsTrue result ↔ (texts_of this.now ≡ texts_of that.now) }
+{
+    this.stop_signal.same(&that.stop_signal)
+        && this.user.same(&that.user)
+        && this.working_dir.same(&that.working_dir)
+}
+
+/// A copy of a configuration, with the fields that are always set.
 fn copied_with_basics(alloc: Global, config: &Config, basics: Basics) -> Result<Config, Memory>
     ensures { IfOk result (λ copied. copied ≡ together basics (texts_of config.now) (objects_of config.now) (lists_of config.now) config.now.cmd_is_own) }
 {
