@@ -8,8 +8,6 @@
 #[cfg(test)]
 mod characters;
 #[cfg(test)]
-mod configurations;
-#[cfg(test)]
 mod copies;
 #[cfg(test)]
 mod data;

@@ -1,5 +1,5 @@
-// `copies`: a name, ` | `, and a bundle. Each vertex of its plan is copied, the plan's configuration, and the tree that the plan comes to. The answer is
-// the name, how many vertices the plan has, and what isn't equal to its copy.
+// `copies`: a name, ` | `, and a bundle. Each vertex of its plan is copied, the plan's configuration, and the tree of the answer to the plan, which has the
+// plan's configuration too. The answer is the name, how many vertices the plan has, and what isn't equal to its copy.
 //
 // Then comes whether the graph that the program writes of the bundle is that of `FROM scratch` and `RUN put /a hi`, put together here with addresses that
 // are computed here, the SHA-256 of each operation's text without its lines.
@@ -9,17 +9,15 @@ use crate::devices::{Devices, run};
 use cachemounts::CacheStore;
 use executor::Fixture;
 use imageconfig::Config;
-use memo::Memo;
 use plain::{Exact, Memory};
 use plans::Plan;
 use sha2::{Digest, Sha256};
-use solver::{OpenGate, Solution};
+use solver::{Answer, solve_here};
 use std::alloc::Global;
 use std::hash::RandomState;
 use std::rt::Files;
 use std::sync::Wait;
 use std::thread::Threads;
-use workers::solve_together;
 
 /// The text of the operation that gives the empty tree.
 const SCRATCH: &str = r#"{"inputs":[],"op":"source","source":"scratch"}"#;
@@ -33,7 +31,7 @@ pub fn answer<F: Files + AllocGlobal + Clone + Drop>(
 ) -> Result<String, Memory> {
     let (name, bundle) = case.split_once(" | ").unwrap_or((case, ""));
     let plan = plan_of_bundle(alloc, keys, rt, bundle)?;
-    let text = copied(alloc, rt, &plan);
+    let text = copied(alloc, &plan);
     drop(plan);
     let text = text?;
     let devices = Devices::whole(usize::MAX);
@@ -58,24 +56,26 @@ pub fn answer<F: Files + AllocGlobal + Clone + Drop>(
 }
 
 /// What isn't equal to its copy.
-fn copied(
-    alloc: Global,
-    rt: &(impl Threads + Wait + Sync),
-    plan: &Plan<Config>,
-) -> Result<String, Memory> {
+fn copied(alloc: Global, plan: &Plan<Config>) -> Result<String, Memory> {
     let vertices = plan.graph().vertices();
     let mut text = format!(in alloc; "{} vertices", vertices.len())?;
     for vertex in vertices {
-        let copy = vertex.copy(alloc)?;
-        let is_same = copy.same(vertex);
-        drop(copy);
+        let is_same = is_copied(alloc, vertex)?;
         push_unless(&mut text, is_same, ", a vertex differs")?;
     }
-    let is_same = is_config_same(alloc, plan.config())?;
+    let is_same = is_copied(alloc, plan.config())?;
     push_unless(&mut text, is_same, ", the configuration differs")?;
-    let is_same = is_tree_same(alloc, rt, plan)?;
-    push_unless(&mut text, is_same, ", the tree differs")?;
+    let is_same = is_answer_copied(alloc, plan)?;
+    push_unless(&mut text, is_same, ", the answer differs")?;
     Ok(text)
+}
+
+/// Whether a value is equal to its copy.
+fn is_copied<T: Exact + Drop>(alloc: Global, value: &T) -> Result<bool, Memory> {
+    let copy = value.copy(alloc)?;
+    let is_same = copy.same(value);
+    drop(copy);
+    Ok(is_same)
 }
 
 fn push_unless(text: &mut String, is_same: bool, what: &str) -> Result<(), Memory> {
@@ -85,52 +85,20 @@ fn push_unless(text: &mut String, is_same: bool, what: &str) -> Result<(), Memor
     Ok(())
 }
 
-/// Whether a configuration and its copy are written alike.
-fn is_config_same(alloc: Global, config: &Config) -> Result<bool, Memory> {
-    let copy = config.copy(alloc)?;
-    let texts = (written(alloc, config), written(alloc, &copy));
-    drop(copy);
-    let (this, other) = (texts.0?, texts.1?);
-    Ok(this.as_str() == other.as_str())
-}
-
-fn written(alloc: Global, config: &Config) -> Result<String, Memory> {
-    let value = config.to_json(alloc)?;
-    Ok(value.to_string(alloc)?)
-}
-
-/// Whether the tree that a plan comes to is equal to its copy.
-fn is_tree_same(
-    alloc: Global,
-    rt: &(impl Threads + Wait + Sync),
-    plan: &Plan<Config>,
-) -> Result<bool, Memory> {
+/// Whether a plan comes to a tree that is equal to its copy, with the plan's configuration.
+fn is_answer_copied(alloc: Global, plan: &Plan<Config>) -> Result<bool, Memory> {
     let mut caches = CacheStore::new(alloc);
-    let mut memo = Memo::new(alloc, &Fixture);
-    let solved = solve_together(
-        alloc,
-        rt,
-        plan,
-        &Fixture,
-        1,
-        &OpenGate,
-        &mut caches,
-        &mut memo,
-    );
-    drop(memo);
+    let answer = solve_here(alloc, plan, &Fixture, &mut caches);
     drop(caches);
-    match solved? {
-        Solution::Built(tree) => {
-            let copy = tree.copy(alloc);
-            let is_same = match &copy {
-                Ok(copy) => copy.same(&tree),
-                Err(_) => false,
-            };
+    match answer? {
+        Answer::Built(tree, config) => {
+            let is_same = config.same(plan.config());
+            drop(config);
+            let is_copied = is_copied(alloc, &tree);
             drop(tree);
-            drop(copy?);
-            Ok(is_same)
+            Ok(is_copied? && is_same)
         }
-        Solution::Failed { .. } => Ok(false),
+        Answer::Failed { .. } => Ok(false),
     }
 }
 

@@ -10,6 +10,7 @@ mod buildkit;
 mod by_hand;
 mod changing;
 mod commands;
+mod configurations;
 mod copies;
 mod definitions;
 mod devices;
@@ -73,6 +74,7 @@ enum Table {
     Leases,
     Trees,
     Copies,
+    Configurations,
     Definitions,
     Llb,
     Programs,
@@ -136,6 +138,7 @@ fn table_of(name: &str) -> Table {
         "leases" => Table::Leases,
         "trees" => Table::Trees,
         "copies" => Table::Copies,
+        "configurations" => Table::Configurations,
         "definitions" => Table::Definitions,
         "llb" => Table::Llb,
         "programs" => Table::Programs,
@@ -176,6 +179,7 @@ fn answer<F: Files + AllocGlobal + Clone + Drop>(
         Table::Leases => leases::answer(alloc, case),
         Table::Trees => steps::answer(alloc, case),
         Table::Copies => copies::answer(alloc, keys, rt, files, case),
+        Table::Configurations => configurations::answer(alloc, keys, case),
         Table::Definitions => definitions::answer(alloc, case),
         Table::Llb => buildkit::answer(alloc, keys, case),
         Table::Programs => programs::answer(alloc, keys, rt, files, case),
