@@ -1,9 +1,9 @@
 -- What is put into a plain tree leaves it plain.
-use Rattle.std.specs.Prelude.{◌≡◌, ◌≤◌, ◌+◌, ℕ, Bool, true, false, List, [], ◌∷◌, ◌++◌, map, Option, Some, None, Result, Ok, Err, cond, unwrap_or, refl, codes}
+use Rattle.std.specs.Prelude.{◌≡◌, ◌⊎◌, ◌≤◌, ◌+◌, ℕ, Bool, true, false, List, [], ◌∷◌, ◌++◌, map, Option, Some, None, Result, Ok, Err, cond, unwrap_or, refl, codes}
 use Rattle.std.specs.List.{list_all}
 use Rattle.std.specs.Ordering.{match_ordering, nat_cmp}
 use Rattle.std.specs.Cmp.Lexicographic.{slice_cmp}
-use Rattle.std.proofs.Common.{ap, sym, ◌∙◌, ◌||◌, subst, arith, Ordering, Less, Equal, Greater}
+use Rattle.std.proofs.Common.{inl, inr, ap, sym, ◌∙◌, ◌||◌, subst, arith, Ordering, Less, Equal, Greater}
 use Rattle.std.specs.Option.{option_map, option_or}
 use Rattle.std.specs.FinMap.{get, entries}
 use Rattle.plain.specs.declared.fault.Fault.{Fault}
@@ -25,6 +25,7 @@ use Rattle.trees.specs.Row.{Row}
 use Rattle.entries.specs.Written.{entry_data}
 use Rattle.entries.proofs.WrittenFacts.{tree-plain}
 use Rattle.packing.specs.Images.{ImageRow, are_images, are_names, is_image, most_depth, names_of}
+use Rattle.packing.specs.Leaving.{ignore_path}
 use Rattle.packing.specs.Packed.{Asked, Given, IsPlainEntry, IsPlain, bundle_of, bytes_in, dockerfile_among, dockerfile_of, dockerfile_path, files_members, given_with, members_beside, packed_data, packed_of, put_args, put_images, put_target, put_texts, put_values}
 use Rattle.packing.specs.PrivatePacked.{IsTextOf, beside as beside_images, beside_among, beside_of}
 use Rattle.packing.proofs.ImageFacts.{image_even}
@@ -65,9 +66,14 @@ plain_changed tree new path entry (Err Memory) plain is change = subst IsPlain (
 dockerfile_clean : IsClean dockerfile_path
 dockerfile_clean = record { names = refl; short = refl; few = omega arith }
 
--- the Dockerfile's path may be made
-pub dockerfile_child : (base : List (List ℕ)) (name : List ℕ) → base ≡ [] → name ≡ codes "Dockerfile" → IsClean (base ++ name ∷ [])
-dockerfile_child base name is_root is_name = rw (is_root, is_name) dockerfile_clean
+ignore_clean : IsClean ignore_path
+ignore_clean = record { names = refl; short = refl; few = omega arith }
+
+-- the paths of the Dockerfile and of the ignore file may be made
+pub own_child : (base : List (List ℕ)) (name given : List ℕ) → base ≡ [] → name ≡ given → (given ≡ codes "Dockerfile") ⊎ (given ≡ codes ".dockerignore")
+    → IsClean (base ++ name ∷ [])
+own_child base name given is_root is_name (inl is) = rw (is_root, is_name, is) dockerfile_clean
+own_child base name given is_root is_name (inr is) = rw (is_root, is_name, is) ignore_clean
 
 -- ---- no bundle holds a float
 

@@ -9,4 +9,7 @@ asked_of options = record {
   images = map (λ image. image.0) options.images.now;
   target = option_map (λ target. target.now) options.target;
   args = options.args.now;
+  apply_ignore = options.apply_ignore;
+  names = options.names;
+  pass = options.pass;
 }

@@ -6,9 +6,11 @@ use Rattle.plain.specs.declared.fault.Fault.TheVariants.{Because, Memory as Want
 use Rattle.counted.specs.Edges.{AppendsBeginning, IsUnwritten, line_of}
 use Rattle.counted.specs.declared.fault.Device.{Device as DeviceReason}
 use Rattle.trees.specs.TreeMap.{TreeMap}
+use Rattle.ignorefile.specs.declared.line.Line.{Line}
 use Rattle.serde_json.specs.Read.{read}
 use Rattle.packing.specs.Images.{ImageRow, are_images, names_of}
-use Rattle.packing.specs.Packed.{Asked, Given, IsPlain, bundle_of, given_with, packed_of}
+use Rattle.packing.specs.Leaving.{AreApplied, Gathers, HasIgnore, keeping_of}
+use Rattle.packing.specs.Packed.{Asked, IsPlain, bundle_of, given_with, packed_of}
 use Rattle.packing.specs.declared.fault.PackFault.{PackFault}
 use Rattle.packing.specs.declared.fault.PackFault.TheVariants.{Memory, Device, Ended}
 use Rattle.answering.specs.declared.status.Status.{Status}
@@ -38,45 +40,54 @@ IsPacking (Ok Failed) = ⊥
 IsPacking (Ok Refused) = ⊤
 IsPacking (Err fault) = ⊤
 
--- the whole bundle of a folder was written, with the LF that ends it; it is read as that bundle's data
-pub record HasPacked (tree : TreeMap) (file : Option (List ℕ)) (given : Given) (old new : Option (List ℕ)) : Type 0 where
-  pub text : List ℕ
-  pub is : packed_of tree file given ≡ Some text
-  pub reads : read text ≡ bundle_of tree file given
-  pub written : Appends old new (line_of text)
-
--- a beginning of it was
-pub record HasBegun (tree : TreeMap) (file : Option (List ℕ)) (given : Given) (old new : Option (List ℕ)) : Type 0 where
-  pub text : List ℕ
-  pub is : packed_of tree file given ≡ Some text
-  pub written : AppendsBeginning old new (line_of text)
-
--- How packing ends of what was found: the folder's tree, the Dockerfile that was named, and what is given, by what its writer has written and how
--- many of its calls failed. Its bundle was written; or nothing was, for want of memory, or since the Dockerfile that was found at first wasn't
--- there when it was read; or a write failed.
-abbrev pub Packs : TreeMap → Option (List ℕ) → Given → Option (List ℕ) → ℕ → Option (List ℕ) → ℕ → Result Status PackFault → Type 0
-Packs tree file given old failed new failed_then (Ok Built) = HasPacked tree file given old new × (failed_then ≡ failed)
-Packs tree file given old failed new failed_then (Ok Failed) = ⊥
-Packs tree file given old failed new failed_then (Ok Refused) = ⊥
-Packs tree file given old failed new failed_then (Err Memory) = IsUnwritten old failed new failed_then
-Packs tree file given old failed new failed_then (Err Ended) = (packed_of tree file given ≡ None) × IsUnwritten old failed new failed_then
-Packs tree file given old failed new failed_then (Err Device) = HasBegun tree file given old new × (failed_then ≡ failed + 1)
-
--- what was found for what is asked was packed: plain files and directories; the Dockerfile that is named, if one is; and images of the names that
--- are asked for, each of which a bundle takes
-pub record PacksFound (asked : Asked) (old : Option (List ℕ)) (failed : ℕ) (new : Option (List ℕ)) (failed_then : ℕ) (result : Result Status PackFault) : Type 0 where
+-- What was found for what is asked, of a folder of the machine, of which nothing is known: its tree, of plain files and directories; the Dockerfile
+-- that is named, if one is; images of the names that are asked for, each of which a bundle takes; and the ignore file that counts, which stands in
+-- the tree: the Dockerfile's own, or, if it is to be applied, the folder's. By its lines, if it is to be applied, the tree has what is kept.
+pub record Finding (asked : Asked) : Type 0 where
   pub tree : TreeMap
   pub file : Option (List ℕ)
   pub images : List ImageRow
+  pub ignore : Option (List ℕ)
+  pub lines : List Line
   pub plain : IsPlain tree
   pub has_file : is_some file ≡ asked.has_file
   pub names : names_of images ≡ asked.images
   pub are_images : are_images images ≡ true
-  pub packs : Packs tree file (given_with asked images) old failed new failed_then result
+  pub has_ignore : HasIgnore ignore tree
+  pub applied : AreApplied asked.apply_ignore ignore lines
+  pub gathers : Gathers (keeping_of asked lines) tree
 
--- How packing a folder of the machine ends, of which nothing is known: what was found in it was packed; or no Dockerfile was found, and it is
--- refused; or the folder, the Dockerfile that is named or an image couldn't be read whole, or not for want of memory. In both of these nothing was
--- written.
+-- a text is that of the bundle of what was found, and is read as that bundle's data
+pub record IsBundle (asked : Asked) (text : List ℕ) : Type 0 where
+  pub found : Finding asked
+  pub is : packed_of found.tree found.file (given_with asked found.images) ≡ Some text
+  pub reads : read text ≡ bundle_of found.tree found.file (given_with asked found.images)
+
+-- What packing a folder gives: the text of the bundle of what was found; or none, where no Dockerfile was found; or a fault, where the folder, the
+-- Dockerfile that is named or an image couldn't be read whole, or for want of memory.
+abbrev pub PacksText : Asked → Result (Option (List ℕ)) PackFault → Type 0
+PacksText asked (Ok None) = ⊤
+PacksText asked (Ok (Some text)) = IsBundle asked text
+PacksText asked (Err fault) = IsBefore fault
+
+-- How writing a bundle's text ends, with the LF that ends it, by what its writer has written and how many of its calls failed: it was written; or
+-- nothing was, for want of memory; or a write failed after a beginning.
+abbrev pub Writes : List ℕ → Option (List ℕ) → ℕ → Option (List ℕ) → ℕ → Result Status PackFault → Type 0
+Writes text old failed new failed_then (Ok Built) = Appends old new (line_of text) × (failed_then ≡ failed)
+Writes text old failed new failed_then (Ok Failed) = ⊥
+Writes text old failed new failed_then (Ok Refused) = ⊥
+Writes text old failed new failed_then (Err Memory) = IsUnwritten old failed new failed_then
+Writes text old failed new failed_then (Err Ended) = ⊥
+Writes text old failed new failed_then (Err Device) = AppendsBeginning old new (line_of text) × (failed_then ≡ failed + 1)
+
+-- what was found for what is asked was packed, and its bundle written
+pub record PacksFound (asked : Asked) (old : Option (List ℕ)) (failed : ℕ) (new : Option (List ℕ)) (failed_then : ℕ) (result : Result Status PackFault) : Type 0 where
+  pub text : List ℕ
+  pub is : IsBundle asked text
+  pub writes : Writes text old failed new failed_then result
+
+-- How packing a folder of the machine ends: the bundle of what was found in it was written; or no Dockerfile was found, and it is refused; or it
+-- couldn't be packed whole, or not for want of memory. In both of these nothing was written.
 abbrev pub PacksFolder : Asked → Option (List ℕ) → ℕ → Option (List ℕ) → ℕ → Result Status PackFault → Type 0
 PacksFolder asked old failed new failed_then result =
     (IsErrAnd result IsBefore × IsUnwritten old failed new failed_then)

@@ -7,3 +7,4 @@ pub mod PrivateFound
 pub mod PrivateImages
 pub mod PrivateLeaving
 pub mod PrivatePacked
+pub mod PrivateWords

@@ -46,15 +46,27 @@ abbrev pub dockerfile_among : TreeMap → Option (List ℕ) → Option (List ℕ
 dockerfile_among tree None = dockerfile_of tree
 dockerfile_among tree (Some file) = Some file
 
--- what is asked for beside a folder: whether a Dockerfile is named, the names of images, the bundle's target, and its build arguments
+-- what is asked for beside a folder: whether a Dockerfile is named, the names of images, the bundle's target, and its build arguments; and whether
+-- what the ignore file leaves out isn't packed, whether files are packed without their bytes, and whether links and devices are passed over
 pub record Asked : Type 0 where
   pub has_file : Bool
   pub images : List (List ℕ)
   pub target : Option (List ℕ)
   pub args : List (List ℕ × List ℕ)
+  pub apply_ignore : Bool
+  pub names : Bool
+  pub pass : Bool
 
 abbrev pub nothing_asked : Asked
-nothing_asked = record { has_file = false; images = []; target = None; args = [] }
+nothing_asked = record {
+  has_file = false;
+  images = [];
+  target = None;
+  args = [];
+  apply_ignore = false;
+  names = false;
+  pass = false;
+}
 
 -- what stands in a bundle beside a folder and its Dockerfile: images, the target, and build arguments
 pub record Given : Type 0 where

@@ -15,4 +15,6 @@ pub struct PackOptions<'a> {
     pub apply_ignore: bool,
     /// Whether files are packed without their bytes, but the ignore file and the folder's `Dockerfile` where that is the bundle's.
     pub names: bool,
+    /// Whether what is kept and is neither a file nor a folder, as a link, is passed over and doesn't end packing.
+    pub pass: bool,
 }

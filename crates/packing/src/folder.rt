@@ -1,4 +1,4 @@
-ghost use Rattle.std.specs.Prelude.{◌≡◌, true, option_map, IfOk, IfSome};
+ghost use Rattle.std.specs.Prelude.{◌≡◌, ◌⊎◌, [], ◌∷◌, true, codes, option_map, IfOk, IfSome};
 ghost use Rattle.std.specs.FinMap.{entries};
 ghost use Rattle.trees.specs.TreeMap.{empty_tree, file_meta, directory_meta};
 ghost use Rattle.trees.specs.Put.{put_into};
@@ -8,12 +8,14 @@ ghost use Rattle.serde_json.specs.Data.{object};
 ghost use Rattle.serde_json.specs.Read.{read};
 ghost use Rattle.serde_json.specs.View.{members_view};
 ghost use Rattle.packing.specs.Images.{are_images};
-ghost use Rattle.packing.specs.Packed.{bundle_of, dockerfile_path, dockerfile_of, given_with, packed_of, put_images};
+ghost use Rattle.packing.specs.Leaving.{ignore_path};
+ghost use Rattle.packing.specs.Packed.{bundle_of, dockerfile_of, given_with, packed_of, put_images};
 ghost use Rattle.packing.specs.PrivateImages.{image_rows};
 ghost use Rattle.packing.specs.PrivatePacked.{IsTextOf, beside, beside_among, beside_of};
 ghost use Rattle.packing.specs.Asked.{asked_of};
 
 use crate::PackOptions;
+use crate::leaving::IGNORE_FILE;
 use crate::members::{members_beside, put_images};
 use paths::Path;
 use plain::{Bytes, Items, Memory, Text};
@@ -29,6 +31,8 @@ pub(crate) const DOCKERFILE: &str = "Dockerfile";
 #[derive(Drop)]
 pub(crate) struct Folder {
     tree: Tree,
+    /// The places of what was passed over.
+    passed: String,
 }
 
 impl Model for Folder {
@@ -51,7 +55,31 @@ impl Folder {
     {
         Folder {
             tree: Tree::empty(alloc),
+            passed: String::new(alloc),
         }
+    }
+
+    /// Notes that what is at this place is passed over.
+    pub(crate) fn pass_over(&mut self, place: &str) -> Result<(), Memory>
+        ensures { self.new ≡ self.old }
+    {
+        if !self.passed.is_empty() {
+            self.passed.push_str(", ")?;
+        }
+        self.passed.push_str(place)?;
+        Ok(())
+    }
+
+    /// A warning that names all that was passed over, with its LF; the empty text where nothing was.
+    pub(crate) fn warning(&self, alloc: Global) -> Result<Text, Memory> {
+        if self.passed.is_empty() {
+            return Ok(Text::from_string(String::new(alloc)));
+        }
+        let passed = self.passed.as_str();
+        let line = format!(in alloc;
+            "warning: passed over, since neither a file nor a folder: {passed}\n"
+        )?;
+        Ok(Text::from_string(line))
     }
 
     /// Puts a file of these bytes at a path, as `Tree::put` does.
@@ -65,6 +93,14 @@ impl Folder {
     {
         let entry = Entry::File(Meta::file(), Content::new(alloc, bytes)?);
         self.tree.put(alloc, path, entry)
+    }
+
+    /// Puts the folder's ignore file, of these bytes, as `Tree::put` does.
+    pub(crate) fn add_ignore_file(&mut self, alloc: Global, bytes: Bytes) -> Result<(), TreeFault>
+        ensures { ChangesTree (put_into self.old ignore_path (File file_meta bytes)) self.old self.new result }
+    {
+        let path = path_at_root(alloc, IGNORE_FILE)?;
+        self.add_file(alloc, &path, bytes)
     }
 
     /// Puts a directory at a path, as `Tree::put` does.
@@ -126,7 +162,7 @@ impl Folder {
     ) -> Result<Option<Map<String, Value>>, Memory>
         ensures { IfOk result (λ found. option_map (λ members. members_view members.entries) found ≡ beside_of self.now (dockerfile_of self.now) (asked_of options.entry)) }
     {
-        let path = dockerfile_path(alloc)?;
+        let path = path_at_root(alloc, DOCKERFILE)?;
         match self.tree.get(&path) {
             Some(LentEntry::File(_, content)) => {
                 let members = tree_members(alloc, &self.tree, content.as_slice(), options)?;
@@ -138,11 +174,12 @@ impl Folder {
     }
 }
 
-/// The path of the Dockerfile in its folder.
-fn dockerfile_path(alloc: Global) -> Result<Path, Memory>
-    ensures { IfOk result (λ path. path ≡ dockerfile_path) }
+/// The path of what has this name in a folder, the Dockerfile or the ignore file.
+fn path_at_root(alloc: Global, name: &str) -> Result<Path, Memory>
+    requires { (name.now ≡ codes "Dockerfile") ⊎ (name.now ≡ codes ".dockerignore") }
+    ensures { IfOk result (λ path. path ≡ name.now ∷ []) }
 {
-    let name = Text::from_str(alloc, DOCKERFILE)?;
+    let name = Text::from_str(alloc, name)?;
     Path::root(alloc).child(alloc, &name)
 }
 

@@ -7,12 +7,12 @@ ghost use Rattle.packing.specs.Images.{are_images, are_names, is_image, names_of
 ghost use Rattle.packing.specs.PrivateImages.{image_rows, given_names};
 
 use crate::PackFault;
+use crate::finding::bytes_of;
 use crate::images::{is_among, is_image_name, is_json, read_image};
 use crate::refusing::{
     NAMED_TWICE, NO_FILE_OF_IMAGE, NO_IMAGE, NO_IMAGE_NAME, NO_JSON, TOO_LARGE, refuse,
     refuse_error,
 };
-use crate::walking::bytes_of;
 use plain::limits::MOST_BUNDLE_BYTES;
 use plain::{Bytes, Fault, Items, Text};
 use serde_json::Value;
@@ -21,34 +21,34 @@ use std::fs;
 use std::hash::RandomState;
 use std::rt::Files;
 
-/// The JSON of these images, each a name and its file, in their order. After `Ended` it is noted in `why` what is wrong with which file.
+/// The JSON of these images, each a name and its file, in their order. After `Ended` it is noted what is wrong with which file.
 pub(crate) fn read_images<R: Files + AllocGlobal>(
     rt: &R,
     alloc: Global,
     keys: RandomState,
     images: &[(Text, Text)],
-    why: &mut Text,
+    notes: &mut Text,
 ) -> Result<Items<(Text, Value)>, PackFault>
     ensures before { IfErr result IsBefore }
     ensures names { IfOk result (λ found. names_of (image_rows found) ≡ given_names images.now) }
     ensures images { IfOk result (λ found. are_images (image_rows found) ≡ true) }
 {
-    check_names(alloc, images, why)?;
-    read_files(rt, alloc, keys, images, why)
+    check_names(alloc, images, notes)?;
+    read_files(rt, alloc, keys, images, notes)
 }
 
 /// Looks whether each name is that of an image, and none is there twice.
-fn check_names(alloc: Global, images: &[(Text, Text)], why: &mut Text) -> Result<(), PackFault>
+fn check_names(alloc: Global, images: &[(Text, Text)], notes: &mut Text) -> Result<(), PackFault>
     ensures before { IfErr result IsBefore }
     ensures names { IfOk result (λ _. are_names (given_names images.now) ≡ true) }
 {
     let mut left = images;
     'names: while let [image, more @ ..] = left {
         if !is_image_name(&image.0) {
-            return Err(refuse(alloc, why, place_of(&image.1), NO_IMAGE_NAME));
+            return Err(refuse(alloc, notes, image.1.as_str(), NO_IMAGE_NAME));
         }
         if is_among(&image.0, more) {
-            return Err(refuse(alloc, why, place_of(&image.1), NAMED_TWICE));
+            return Err(refuse(alloc, notes, image.1.as_str(), NAMED_TWICE));
         }
         left = more;
     }
@@ -61,7 +61,7 @@ fn read_files<R: Files + AllocGlobal>(
     alloc: Global,
     keys: RandomState,
     images: &[(Text, Text)],
-    why: &mut Text,
+    notes: &mut Text,
 ) -> Result<Items<(Text, Value)>, PackFault>
     ensures before { IfErr result IsBefore }
     ensures names { IfOk result (λ found. names_of (image_rows found) ≡ given_names images.now) }
@@ -69,7 +69,7 @@ fn read_files<R: Files + AllocGlobal>(
 {
     let mut found = Items::new(alloc);
     for (name, file) in images {
-        let row = read_row(rt, alloc, keys, name, file, why)?;
+        let row = read_row(rt, alloc, keys, name, file, notes)?;
         found.push(row)?;
     }
     Ok(found)
@@ -82,14 +82,14 @@ fn read_row<R: Files + AllocGlobal>(
     keys: RandomState,
     name: &Text,
     file: &Text,
-    why: &mut Text,
+    notes: &mut Text,
 ) -> Result<(Text, Value), PackFault>
     ensures before { IfErr result IsBefore }
     ensures name { IfOk result (λ row. row.0 ≡ name.now) }
     ensures image { IfOk result (λ row. is_image (view row.1) ≡ true) }
 {
     let name = Text::from_str(alloc, name.as_str())?;
-    match read_file(rt, alloc, keys, file, why) {
+    match read_file(rt, alloc, keys, file, notes) {
         Ok(image) => Ok((name, image)),
         Err(fault) => {
             drop(name);
@@ -104,33 +104,24 @@ fn read_file<R: Files + AllocGlobal>(
     alloc: Global,
     keys: RandomState,
     file: &Text,
-    why: &mut Text,
+    notes: &mut Text,
 ) -> Result<Value, PackFault>
     ensures before { IfErr result IsBefore }
     ensures image { IfOk result (λ image. is_image (view image) ≡ true) }
 {
-    let place = place_of(file);
-    match fs::metadata(rt, file.as_str()) {
-        Ok(found) if !found.is_file() => Err(refuse(alloc, why, place, NO_FILE_OF_IMAGE)),
+    let place = file.as_str();
+    match fs::metadata(rt, place) {
+        Ok(found) if !found.is_file() => Err(refuse(alloc, notes, place, NO_FILE_OF_IMAGE)),
         Ok(found) if found.len() > MOST_BUNDLE_BYTES as u64 => {
-            Err(refuse(alloc, why, place, TOO_LARGE))
+            Err(refuse(alloc, notes, place, TOO_LARGE))
         }
         Ok(_) => {
-            let bytes = bytes_of(rt, alloc, file.as_str(), why)?;
-            let image = image_of_bytes(alloc, keys, place, &bytes, why);
+            let bytes = bytes_of(rt, alloc, place, notes)?;
+            let image = image_of_bytes(alloc, keys, place, &bytes, notes);
             drop(bytes);
             image
         }
-        Err(error) => Err(refuse_error(alloc, why, place, &error)),
-    }
-}
-
-/// What a file is called where it is refused.
-fn place_of(file: &Text) -> &str {
-    if file.len() == 0 {
-        "the empty text"
-    } else {
-        file.as_str()
+        Err(error) => Err(refuse_error(alloc, notes, place, &error)),
     }
 }
 
@@ -140,7 +131,7 @@ fn image_of_bytes(
     keys: RandomState,
     place: &str,
     bytes: &Bytes,
-    why: &mut Text,
+    notes: &mut Text,
 ) -> Result<Value, PackFault>
     ensures before { IfErr result IsBefore }
     ensures image { IfOk result (λ image. is_image (view image) ≡ true) }
@@ -150,11 +141,11 @@ fn image_of_bytes(
             Ok(image) => Ok(image),
             Err(Fault::Memory) => Err(PackFault::Memory),
             Err(Fault::Because(_)) => match is_json(alloc, text) {
-                Ok(true) => Err(refuse(alloc, why, place, NO_IMAGE)),
-                Ok(false) => Err(refuse(alloc, why, place, NO_JSON)),
+                Ok(true) => Err(refuse(alloc, notes, place, NO_IMAGE)),
+                Ok(false) => Err(refuse(alloc, notes, place, NO_JSON)),
                 Err(_) => Err(PackFault::Memory),
             },
         },
-        Err(_) => Err(refuse(alloc, why, place, NO_JSON)),
+        Err(_) => Err(refuse(alloc, notes, place, NO_JSON)),
     }
 }

@@ -4,8 +4,9 @@
 // `Folder`, of which contracts say what bundle it is. An image is taken as its file has it, once it is known that a bundle takes it. Nothing is
 // built here.
 //
-// Its central definitions are `packed_of` (specs/Packed.antt), the text of the bundle of a folder's tree, `Packs` (specs/Ends.antt), how
-// packing what was found ends, and `image_of` (specs/Images.antt), the image that the text of a file gives.
+// Its central definitions are `packed_of` (specs/Packed.antt), the text of the bundle of a folder's tree, `Gathers` (specs/Leaving.antt), what
+// stands in that tree by the ignore file, `Finding` and `PacksFolder` (specs/Ends.antt), what was found and how packing it ends, and `image_of`
+// (specs/Images.antt), the image that the text of a file gives.
 //
 // ```
 // let status = run_pack(alloc, keys, &rt, "examples/folder", &mut output)?;   // Built, and the bundle with an LF is written
@@ -15,6 +16,7 @@
 mod asked;
 mod even;
 mod fault;
+mod finding;
 mod folder;
 mod images;
 mod imaging;
@@ -27,4 +29,4 @@ mod walking;
 
 pub use asked::PackOptions;
 pub use fault::PackFault;
-pub use packing::{run_pack, run_pack_to_file, run_pack_with};
+pub use packing::{packed_text, run_pack, run_pack_to_file, run_pack_with};

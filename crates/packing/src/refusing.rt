@@ -1,20 +1,36 @@
 // What can't be packed, in words: where it is, what it is, and the remedy.
+ghost use Rattle.std.specs.Prelude.{◌≡◌, ◌++◌, IfOk, OnOk};
 ghost use Rattle.packing.specs.Ends.{IsBefore};
+ghost use Rattle.packing.specs.PrivateWords.{Notes, shown};
 
 use crate::PackFault;
-use plain::{Fault, Text};
-use std::alloc::{AllocError, Global};
+use plain::{Fault, Memory, Text};
+use std::alloc::Global;
 use std::io;
 use std::io::ErrorKind;
 use trees::TreeFault;
 
-pub(crate) const LINK: &str = " is a link: remove it, or put what it leads to in its place";
+pub(crate) const LINK: &str =
+    " is a link: leave it out by a line of .dockerignore and --apply-ignore, or put what it leads to in its place";
 
-pub(crate) const NO_FILE: &str = " is neither a file nor a folder: remove it";
+pub(crate) const LINK_KEPT: &str =
+    " is a link: leave it out by a line of the ignore file, or put what it leads to in its place";
+
+pub(crate) const NO_FILE: &str =
+    " is neither a file nor a folder: leave it out by a line of .dockerignore and --apply-ignore, or remove it";
+
+pub(crate) const NO_FILE_KEPT: &str =
+    " is neither a file nor a folder: leave it out by a line of the ignore file, or remove it";
 
 pub(crate) const NO_PLAIN_FILE: &str = " is no file: put a file in its place, or rename it";
 
-pub(crate) const NO_FOLDER: &str = " names no folder: name one";
+pub(crate) const NO_FOLDER: &str = " is no folder: name one";
+
+pub(crate) const NO_SUCH_FOLDER: &str = " does not exist: name another folder";
+
+pub(crate) const NO_PLAIN_DOCKERFILE: &str = " is no plain file; --file names another";
+
+pub(crate) const NO_DOCKERFILE: &str = "; --file names another";
 
 pub(crate) const TOO_DEEP: &str =
     " lies deeper than 64 components, or has too long a name: move or rename it";
@@ -22,9 +38,13 @@ pub(crate) const TOO_DEEP: &str =
 pub(crate) const IN_THE_WAY: &str =
     " has to stand in the context as .dockerignore, where a folder is: rename that folder";
 
+pub(crate) const BAD_NAME: &str =
+    " holds an entry whose name is not UTF-8 or is too long: rename that entry";
+
 const NO_UTF8: &str = " has a name that is not UTF-8 or is too long: rename it";
 
-const MISSING: &str = " does not exist, or is a link that leads to nothing: name what exists";
+pub(crate) const MISSING: &str =
+    " does not exist, or is a link that leads to nothing: name what exists";
 
 const BELOW_FILE: &str = " has a file where a folder has to be: name another path";
 
@@ -55,29 +75,41 @@ const UNREADABLE: &str = " cannot be read: make it readable, or leave it out";
 
 pub(crate) const UNWRITTEN: &str = " cannot be written: see whether there is room for it";
 
-/// Notes that what is at this place can't be packed, and what it is.
-pub(crate) fn refuse(alloc: Global, why: &mut Text, place: &str, what: &str) -> PackFault
-    ensures { IsBefore result }
+/// What a place is called.
+fn shown(place: &str) -> &str
+    ensures { result.now ≡ shown place.now }
 {
-    match text_of(alloc, place, what) {
-        Ok(text) => {
-            *why = text;
-            PackFault::Ended
-        }
-        Err(AllocError) => PackFault::Memory,
+    if place.is_empty() {
+        return "the empty text";
     }
+    place
 }
 
-fn text_of(alloc: Global, place: &str, what: &str) -> Result<Text, AllocError> {
-    let mut text = String::from_str(alloc, place)?;
+/// Notes what there is to say of this place.
+pub(crate) fn note(alloc: Global, notes: &mut Text, place: &str, what: &str) -> Result<(), Memory>
+    ensures { OnOk result (notes.new ≡ shown place.now ++ what.now) }
+{
+    let mut text = String::from_str(alloc, shown(place))?;
     text.push_str(what)?;
-    Ok(Text::from_string(text))
+    *notes = Text::from_string(text);
+    Ok(())
+}
+
+/// Notes that what is at this place can't be packed, and what it is.
+pub(crate) fn refuse(alloc: Global, notes: &mut Text, place: &str, what: &str) -> PackFault
+    ensures before { IsBefore result }
+    ensures noted { Notes result notes.new (shown place.now ++ what.now) }
+{
+    match note(alloc, notes, place, what) {
+        Ok(()) => PackFault::Ended,
+        Err(_) => PackFault::Memory,
+    }
 }
 
 /// The same, where a call of the machine failed.
 pub(crate) fn refuse_error(
     alloc: Global,
-    why: &mut Text,
+    notes: &mut Text,
     place: &str,
     error: &io::Error,
 ) -> PackFault
@@ -85,30 +117,42 @@ pub(crate) fn refuse_error(
 {
     match error.kind() {
         ErrorKind::OutOfMemory => PackFault::Memory,
-        ErrorKind::NotFound => refuse(alloc, why, place, MISSING),
-        ErrorKind::NotADirectory => refuse(alloc, why, place, BELOW_FILE),
-        ErrorKind::InvalidFilename => refuse(alloc, why, place, NO_UTF8),
-        _ => refuse(alloc, why, place, UNREADABLE),
+        ErrorKind::NotFound => refuse(alloc, notes, place, MISSING),
+        ErrorKind::NotADirectory => refuse(alloc, notes, place, BELOW_FILE),
+        ErrorKind::InvalidFilename => refuse(alloc, notes, place, NO_UTF8),
+        _ => refuse(alloc, notes, place, UNREADABLE),
+    }
+}
+
+/// The same, where the machine didn't give the next entry of the folder at this place.
+pub(crate) fn refuse_entry(
+    alloc: Global,
+    notes: &mut Text,
+    place: &str,
+    error: &io::Error,
+) -> PackFault
+    ensures { IsBefore result }
+{
+    match error.kind() {
+        ErrorKind::InvalidFilename => refuse(alloc, notes, place, BAD_NAME),
+        _ => refuse_error(alloc, notes, place, error),
     }
 }
 
 /// The same, where an ignore file at this place has a bad line of this number.
-pub(crate) fn refuse_line(alloc: Global, why: &mut Text, place: &str, number: usize) -> PackFault
+pub(crate) fn refuse_line(alloc: Global, notes: &mut Text, place: &str, number: usize) -> PackFault
     ensures { IsBefore result }
 {
-    match format!(in alloc; "{place} has a malformed line, {number}: mend it") {
-        Ok(text) => {
-            *why = Text::from_string(text);
-            PackFault::Ended
-        }
-        Err(AllocError) => PackFault::Memory,
+    match format!(in alloc; " has a malformed line, {number}: mend it") {
+        Ok(what) => refuse(alloc, notes, place, what.as_str()),
+        Err(_) => PackFault::Memory,
     }
 }
 
 /// The same, where what was found at a place doesn't fit into the folder that was found so far.
-pub(crate) fn refuse_entry(
+pub(crate) fn refuse_fault(
     alloc: Global,
-    why: &mut Text,
+    notes: &mut Text,
     place: &str,
     what: &str,
     fault: TreeFault,
@@ -117,7 +161,7 @@ pub(crate) fn refuse_entry(
 {
     match fault {
         Fault::Memory => PackFault::Memory,
-        Fault::Because(_) => refuse(alloc, why, place, what),
+        Fault::Because(_) => refuse(alloc, notes, place, what),
     }
 }
 
@@ -125,22 +169,20 @@ pub(crate) fn refuse_entry(
 /// memory for that.
 pub(crate) fn refuse_output(
     alloc: Global,
-    why: &mut Text,
+    notes: &mut Text,
     name: &str,
     error: &io::Error,
 ) -> PackFault {
     if error.kind() == ErrorKind::OutOfMemory {
         return PackFault::Memory;
     }
-    note_output(alloc, why, name, unwritable(error.kind()));
+    note_output(alloc, notes, name, unwritable(error.kind()));
     PackFault::Device
 }
 
 /// Notes why the file that the bundle is written to wasn't written, if there is memory for that.
-pub(crate) fn note_output(alloc: Global, why: &mut Text, name: &str, what: &str) {
-    if let Ok(text) = text_of(alloc, name, what) {
-        *why = text;
-    }
+pub(crate) fn note_output(alloc: Global, notes: &mut Text, name: &str, what: &str) {
+    let _ = note(alloc, notes, name, what);
 }
 
 /// Why a file can't be written.
