@@ -87,11 +87,11 @@ message-same target images others lines own (Coded R12) number word h = absurd (
 message-same target images others lines own (Coded code) number word h = refl
 message-same target images others lines own (Required text) number word h = refl
 
-shown-same : (form : Form) (target : Option (List ℕ)) (images others lines : List (List ℕ)) (fault : Rejection) → needs_images fault.reason ≡ false
-    → shown_fault form target images lines fault ≡ shown_fault form target others lines fault
-shown-same form target images others lines fault h =
+shown-same : (file : List ℕ) (form : Form) (target : Option (List ℕ)) (images others lines : List (List ℕ)) (fault : Rejection) → needs_images fault.reason ≡ false
+    → shown_fault file form target images lines fault ≡ shown_fault file form target others lines fault
+shown-same file form target images others lines fault h =
     let own = own_in fault.reason lines fault.line in
-    ap (λ (message : Message). shown_told form fault own message (marked_by fault.reason (spot_by fault.reason own)))
+    ap (λ (message : Message). shown_told file form fault own message (marked_by fault.reason (spot_by fault.reason own)))
     (message-same target images others lines own fault.reason fault.line (word_in (spot_by fault.reason own)) h)
 
 neither : (a b : Bool) → a || b ≡ false → (a ≡ false) × (b ≡ false)
@@ -99,20 +99,20 @@ neither true b h = absurd (true≢false h)
 neither false b h = (refl, h)
 
 pub alike_without : (images others : List (List ℕ)) (faults : List Rejection) → list_any (λ fault. needs_images fault.reason) faults ≡ false
-    → (form : Form) (target : Option (List ℕ)) (lines : List (List ℕ)) → shown_faults form target images lines faults ≡ shown_faults form target others lines faults
-alike_without images others [] h form target lines = refl
-alike_without images others (fault ∷ faults) h form target lines =
+    → AreShownAlike images others faults
+alike_without images others [] h file form target lines = refl
+alike_without images others (fault ∷ faults) h file form target lines =
     let both = neither (needs_images fault.reason) (list_any (λ (it : Rejection). needs_images it.reason) faults) h in
-    λ i. shown-same form target images others lines fault both.0 i ++ alike_without images others faults both.1 form target lines i
+    λ i. shown-same file form target images others lines fault both.0 i ++ alike_without images others faults both.1 file form target lines i
 
 -- and with all of them it is what it is
 pub alike : (result : Result (List (List ℕ)) Memory) (names : List (List ℕ)) (faults : List Rejection) → IfOk result (λ images. images ≡ names)
     → IfOk result (λ images. AreShownAlike images names faults)
-alike (Ok images) names faults e = λ form target lines. ap (λ (it : List (List ℕ)). shown_faults form target it lines faults) e
+alike (Ok images) names faults e = λ file form target lines. ap (λ (it : List (List ℕ)). shown_faults file form target it lines faults) e
 alike (Err memory) names faults e = tt
 
 -- so is what is shown of a bundle
-pub check-alike : (form : Form) (flaw : Option Flaw) (target : Option (List ℕ)) (images others lines : List (List ℕ)) (faults : List Rejection)
-    → AreShownAlike images others faults → shown_check form flaw target images lines faults ≡ shown_check form flaw target others lines faults
-check-alike form None target images others lines faults alike = alike form target lines
-check-alike form (Some flaw) target images others lines faults alike = refl
+pub check-alike : (file : List ℕ) (form : Form) (flaw : Option Flaw) (target : Option (List ℕ)) (images others lines : List (List ℕ)) (faults : List Rejection)
+    → AreShownAlike images others faults → shown_check file form flaw target images lines faults ≡ shown_check file form flaw target others lines faults
+check-alike file form None target images others lines faults alike = alike file form target lines
+check-alike file form (Some flaw) target images others lines faults alike = refl

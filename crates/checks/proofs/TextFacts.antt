@@ -79,15 +79,15 @@ found_flaw (Ok found) flaw none is = is ∙ sym none
 found_flaw (Err memory) flaw none is = tt
 
 -- what is found and shown is what a check gives
-pub checked : (bytes : List ℕ) (form : Form) (found : Findings) (images : List (List ℕ)) (made : Checked) → AreFaultsOf bytes found.faults
+pub checked : (file bytes : List ℕ) (form : Form) (found : Findings) (images : List (List ℕ)) (made : Checked) → AreFaultsOf bytes found.faults
     → found.text ≡ faulty_text bytes → found.target ≡ asked_target bytes → found.flaw ≡ flaw_in config_in bytes → AreShownAlike images (image_names bytes) found.faults
-    → made.text ≡ shown_check form found.flaw found.target images (readable_lines found.text) found.faults → made.is_sound ≡ (length found.faults == 0)
-    → IsCheckOf bytes form made
-checked bytes form found images made are text target flaw alike shown sound = record {
+    → made.text ≡ shown_check file form found.flaw found.target images (readable_lines found.text) found.faults → made.is_sound ≡ (length found.faults == 0)
+    → IsCheckOf file bytes form made
+checked file bytes form found images made are text target flaw alike shown sound = record {
   faults = found.faults;
   are = are;
-  text = shown ∙ check-alike form found.flaw found.target images (image_names bytes) (readable_lines found.text) found.faults alike
-      ∙ (λ i. shown_check form (flaw i) (target i) (image_names bytes) (readable_lines (text i)) found.faults);
+  text = shown ∙ check-alike file form found.flaw found.target images (image_names bytes) (readable_lines found.text) found.faults alike
+      ∙ (λ i. shown_check file form (flaw i) (target i) (image_names bytes) (readable_lines (text i)) found.faults);
   is_sound = sound;
 }
 
@@ -98,25 +98,26 @@ HaveFaults = (bytes : List ℕ) → (faults : List Rejection) × AreFaultsOf byt
 abbrev pub HaveOneList : Type 0
 HaveOneList = (bytes : List ℕ) (faults others : List Rejection) → AreFaultsOf bytes faults → AreFaultsOf bytes others → faults ≡ others
 
-pub some_check : HaveFaults → (bytes : List ℕ) (form : Form) → (made : Checked) × IsCheckOf bytes form made
-some_check some bytes form =
+pub some_check : HaveFaults → (file bytes : List ℕ) (form : Form) → (made : Checked) × IsCheckOf file bytes form made
+some_check some file bytes form =
     let found = some bytes in (
-      record { text = shown_check form (flaw_in config_in bytes) (asked_target bytes) (image_names bytes) (readable_lines (faulty_text bytes)) found.0; is_sound = length found.0 == 0 },
+      record { text = shown_check file form (flaw_in config_in bytes) (asked_target bytes) (image_names bytes) (readable_lines (faulty_text bytes)) found.0; is_sound = length found.0 == 0 },
       record { faults = found.0; are = found.1; text = refl; is_sound = refl },
     )
 
 same_checked : (one other : Checked) → one.text ≡ other.text → one.is_sound ≡ other.is_sound → one ≡ other
 same_checked one other text sound = λ i. record { text = text i; is_sound = sound i }
 
-pub one_sound : HaveOneList → (bytes : List ℕ) (form another : Form) (one other : Checked) → IsCheckOf bytes form one → IsCheckOf bytes another other
+pub one_sound : HaveOneList → (file called bytes : List ℕ) (form another : Form) (one other : Checked) → IsCheckOf file bytes form one
+    → IsCheckOf called bytes another other
     → one.is_sound ≡ other.is_sound
-one_sound unique bytes form another one other these those =
+one_sound unique file called bytes form another one other these those =
     let same = unique bytes these.faults those.faults these.are those.are in
     these.is_sound ∙ ap (λ (faults : List Rejection). length faults == 0) same ∙ sym those.is_sound
 
-pub one_check : HaveOneList → (bytes : List ℕ) (form : Form) (one other : Checked) → IsCheckOf bytes form one → IsCheckOf bytes form other → one ≡ other
-one_check unique bytes form one other these those =
+pub one_check : HaveOneList → (file bytes : List ℕ) (form : Form) (one other : Checked) → IsCheckOf file bytes form one → IsCheckOf file bytes form other → one ≡ other
+one_check unique file bytes form one other these those =
     let same = unique bytes these.faults those.faults these.are those.are in
     same_checked one other
-    (these.text ∙ ap (shown_check form (flaw_in config_in bytes) (asked_target bytes) (image_names bytes) (readable_lines (faulty_text bytes))) same ∙ sym those.text)
-    (one_sound unique bytes form form one other these those)
+    (these.text ∙ ap (shown_check file form (flaw_in config_in bytes) (asked_target bytes) (image_names bytes) (readable_lines (faulty_text bytes))) same ∙ sym those.text)
+    (one_sound unique file file bytes form form one other these those)

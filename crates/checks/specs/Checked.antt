@@ -42,9 +42,10 @@ target_in (Some parts) = target_part parts (ignore_of (ignore_bytes parts.files.
 abbrev pub asked_target : List ℕ → Option (List ℕ)
 asked_target bytes = target_in (parts_of config_in bytes)
 
--- what checking bytes gives: all their faults in a form, with the lines or the place that they are about, and whether there is none
-pub record IsCheckOf (bytes : List ℕ) (form : Form) (checked : Checked) : Type 0 where
+-- what checking bytes gives, whose Dockerfile is called so: all their faults in a form, with the lines or the place that they are about, and whether there is
+-- none
+pub record IsCheckOf (file bytes : List ℕ) (form : Form) (checked : Checked) : Type 0 where
   pub faults : List Rejection
   pub are : AreFaultsOf bytes faults
-  pub text : checked.text ≡ shown_check form (flaw_in config_in bytes) (asked_target bytes) (image_names bytes) (readable_lines (faulty_text bytes)) faults
+  pub text : checked.text ≡ shown_check file form (flaw_in config_in bytes) (asked_target bytes) (image_names bytes) (readable_lines (faulty_text bytes)) faults
   pub is_sound : checked.is_sound ≡ (length faults == 0)

@@ -51,7 +51,7 @@ column_of (Some marked) = if marked.above == 0 then Some (length marked.before +
 
 -- what is shown to a person, with numbers as wide as this one: where it is and what is wrong; the lines; and what helps
 abbrev pub shown_wide : List ℕ → List ℕ → List ℕ → ℕ → List (List ℕ) → Message → Option Marked → List ℕ
-shown_wide widest file name number own message marked = (headed (placed file number (column_of marked)) name (visible message.wrong)
+shown_wide widest file name number own message marked = (headed (placed (visible file) number (column_of marked)) name (visible message.wrong)
     ++ excerpt widest number own marked) ++ noted widest (visible message.helps)
 
 -- what is shown to a person of a fault or a failure of the file of this name and of the lines of an instruction, of which the first has this number, with

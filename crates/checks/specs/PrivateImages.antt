@@ -22,4 +22,5 @@ needs_images (Required text) = false
 -- faults are shown alike with these names of images and with others
 abbrev pub AreShownAlike : List (List ℕ) → List (List ℕ) → List Rejection → Type 0
 AreShownAlike images others faults =
-    (form : Form) (target : Option (List ℕ)) (lines : List (List ℕ)) → shown_faults form target images lines faults ≡ shown_faults form target others lines faults
+    (file : List ℕ) (form : Form) (target : Option (List ℕ)) (lines : List (List ℕ))
+    → shown_faults file form target images lines faults ≡ shown_faults file form target others lines faults

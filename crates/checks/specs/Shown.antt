@@ -24,12 +24,12 @@ use Rattle.checks.specs.declared.form.Form.{Form}
 use Rattle.checks.specs.declared.form.Form.TheVariants.{Plain, Json}
 use Rattle.checks.specs.declared.mark.Marked.{Marked}
 
--- what a line is in that is refused for this reason: the ignore file, the whole input, or the Dockerfile
-abbrev pub place_of : Reason → List ℕ
-place_of (Coded R19) = codes ".dockerignore"
-place_of (Coded R20) = codes "bundle"
-place_of (Coded code) = codes "Dockerfile"
-place_of (Required text) = codes "Dockerfile"
+-- what a line is in that is refused for this reason: the ignore file, the whole input, or the Dockerfile, which is called so
+abbrev pub place_of : List ℕ → Reason → List ℕ
+place_of file (Coded R19) = codes ".dockerignore"
+place_of file (Coded R20) = codes "bundle"
+place_of file (Coded code) = file
+place_of file (Required text) = file
 
 -- the lines of a text that need not be UTF-8: what isn't is replaced by U+FFFD
 abbrev pub readable_lines : List ℕ → List (List ℕ)
@@ -57,27 +57,27 @@ own_in reason lines number = if number == 0 then [] else own_by reason lines num
 abbrev pub word_in : Option PlacedSpot → Option (List ℕ)
 word_in found = option_map (λ it. it.1.word) found
 
--- what is shown of a fault that is about these lines, with what is said of it and the word that is marked: a person gets all texts as a terminal may have
--- them, and a program as they stand
-abbrev pub shown_told : Form → Rejection → List (List ℕ) → Message → Option Marked → List ℕ
-shown_told Plain fault own message marked = shown_plain (place_of fault.reason) (code_of fault.reason) fault.line own message marked
-shown_told Json fault own message marked = shown_json (place_of fault.reason) (code_of fault.reason) fault.line own message marked
+-- what is shown of a fault that is about these lines of a Dockerfile that is called so, with what is said of it and the word that is marked: a person gets
+-- all texts as a terminal may have them, and a program as they stand
+abbrev pub shown_told : List ℕ → Form → Rejection → List (List ℕ) → Message → Option Marked → List ℕ
+shown_told file Plain fault own message marked = shown_plain (place_of file fault.reason) (code_of fault.reason) fault.line own message marked
+shown_told file Json fault own message marked = shown_json (place_of file fault.reason) (code_of fault.reason) fault.line own message marked
 
 -- what is said of a fault of a build of this target with these images, in a file of these lines, of which these are its own
 abbrev pub message_in : Option (List ℕ) → List (List ℕ) → List (List ℕ) → List (List ℕ) → Rejection → Message
 message_in target images lines own fault = message_by target images None lines own fault.reason fault.line (word_in (spot_by fault.reason own))
 
-abbrev pub shown_own : Form → Option (List ℕ) → List (List ℕ) → List (List ℕ) → List (List ℕ) → Rejection → List ℕ
-shown_own form target images lines own fault =
-    shown_told form fault own (message_in target images lines own fault) (marked_by fault.reason (spot_by fault.reason own))
+abbrev pub shown_own : List ℕ → Form → Option (List ℕ) → List (List ℕ) → List (List ℕ) → List (List ℕ) → Rejection → List ℕ
+shown_own file form target images lines own fault =
+    shown_told file form fault own (message_in target images lines own fault) (marked_by fault.reason (spot_by fault.reason own))
 
 -- what is shown of a fault of a build of this target with these images, in a text with these lines
-abbrev pub shown_fault : Form → Option (List ℕ) → List (List ℕ) → List (List ℕ) → Rejection → List ℕ
-shown_fault form target images lines fault = shown_own form target images lines (own_in fault.reason lines fault.line) fault
+abbrev pub shown_fault : List ℕ → Form → Option (List ℕ) → List (List ℕ) → List (List ℕ) → Rejection → List ℕ
+shown_fault file form target images lines fault = shown_own file form target images lines (own_in fault.reason lines fault.line) fault
 
--- what is shown of faults, one after another
-abbrev pub shown_faults : Form → Option (List ℕ) → List (List ℕ) → List (List ℕ) → List Rejection → List ℕ
-shown_faults form target images lines faults = flat_map (shown_fault form target images lines) faults
+-- what is shown of faults of a Dockerfile that is called so, one after another
+abbrev pub shown_faults : List ℕ → Form → Option (List ℕ) → List (List ℕ) → List (List ℕ) → List Rejection → List ℕ
+shown_faults file form target images lines faults = flat_map (shown_fault file form target images lines) faults
 
 -- what is shown to a person of bytes that are no bundle, being wrong in this place
 abbrev pub shown_place : List ℕ → List ℕ
@@ -89,6 +89,6 @@ shown_flaw Plain place = shown_place (visible place)
 shown_flaw Json place = place_line (codes "bundle") R20 place
 
 -- what is shown of a bundle's faults: bytes that are no bundle are shown with where they are wrong
-abbrev pub shown_check : Form → Option Flaw → Option (List ℕ) → List (List ℕ) → List (List ℕ) → List Rejection → List ℕ
-shown_check form None target images lines faults = shown_faults form target images lines faults
-shown_check form (Some flaw) target images lines faults = shown_flaw form (place_text flaw)
+abbrev pub shown_check : List ℕ → Form → Option Flaw → Option (List ℕ) → List (List ℕ) → List (List ℕ) → List Rejection → List ℕ
+shown_check file form None target images lines faults = shown_faults file form target images lines faults
+shown_check file form (Some flaw) target images lines faults = shown_flaw form (place_text flaw)

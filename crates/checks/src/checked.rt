@@ -20,16 +20,17 @@ pub struct Checked {
     pub is_sound: bool,
 }
 
-/// Checks the bytes of a bundle: all faults that `check_bundle` finds, as `shown_faults` shows them in this form with the text that they are in.
-/// The file of a fault of the ignore file is called `.dockerignore`. Bytes that are no bundle are shown with where they are wrong.
+/// Checks the bytes of a bundle whose Dockerfile is the file of this name: all faults that `check_bundle` finds, as `shown_faults` shows them in this form
+/// with the text that they are in. Bytes that are no bundle are shown with where they are wrong.
 pub fn check(
     alloc: Global,
     keys: RandomState,
     rt: &(impl Threads + Sync),
+    file: &str,
     bytes: &[u8],
     form: Form,
 ) -> Result<Checked, Memory>
-    ensures { IfOk result (λ checked. IsCheckOf bytes.now form checked) }
+    ensures { IfOk result (λ checked. IsCheckOf file.now bytes.now form checked) }
 {
     let Findings {
         faults,
@@ -40,6 +41,7 @@ pub fn check(
     let images = images_for(alloc, bytes, faults.as_slice())?;
     let text = shown_check(
         alloc,
+        file,
         flaw.as_ref(),
         target.as_ref(),
         images.as_slice(),

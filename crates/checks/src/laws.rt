@@ -21,13 +21,13 @@ pub fn each_bundle_has_its_faults()
     evaluation::laws::every_table_is_evaluated_or_refused();
 }
 
-/// Checking gives one text for each bundle in each form, and says one thing of whether it is sound, whatever the form: what is shown is a function
-/// of the bytes and the form.
+/// Checking gives one text for each bundle in each form, and says one thing of whether it is sound, whatever the form and the name of its Dockerfile: what
+/// is shown is a function of these and the bytes.
 pub fn each_bundle_has_its_check()
-    ensures exists { (bytes : List ℕ) (form : Form) → (checked : Checked) × IsCheckOf bytes form checked }
-    ensures unique { (bytes : List ℕ) (form : Form) (one other : Checked) → IsCheckOf bytes form one → IsCheckOf bytes form other → one ≡ other }
-    ensures sound { (bytes : List ℕ) (form another : Form) (one other : Checked) → IsCheckOf bytes form one → IsCheckOf bytes another other
-        → one.is_sound ≡ other.is_sound }
+    ensures exists { (file bytes : List ℕ) (form : Form) → (checked : Checked) × IsCheckOf file bytes form checked }
+    ensures unique { (file bytes : List ℕ) (form : Form) (one other : Checked) → IsCheckOf file bytes form one → IsCheckOf file bytes form other → one ≡ other }
+    ensures sound { (file called bytes : List ℕ) (form another : Form) (one other : Checked) → IsCheckOf file bytes form one
+        → IsCheckOf called bytes another other → one.is_sound ≡ other.is_sound }
 {
     each_bundle_has_its_faults();
 }

@@ -141,7 +141,8 @@ pub(crate) fn shown_plain(
     ensures { IfOk result (λ text. string_bytes text ≡ shown_plain file.now name.now number (map (λ line. line.now) own.now) message.now (option_copied marked.entry)) }
 {
     let widest = widest_number(alloc, number, own, marked)?;
-    let place = placed(alloc, file, number, column_of(marked))?;
+    let file = visible(alloc, file)?;
+    let place = placed(alloc, file.as_str(), number, column_of(marked))?;
     let wrong = visible(alloc, message.wrong.as_str())?;
     let helps = visible(alloc, message.helps.as_str())?;
     let mut text = headed(alloc, place.as_str(), name, wrong.as_str())?;

@@ -18,7 +18,7 @@
 // `shown_failure` in specs/Failing.antt.
 //
 // ```
-// let checked = check(alloc, keys, &rt, bytes, Form::Plain)?; // of a bundle with the Dockerfile FROM scratch\nRUNN make
+// let checked = check(alloc, keys, &rt, "Dockerfile", bytes, Form::Plain)?; // of a bundle with the Dockerfile FROM scratch\nRUNN make
 // // Dockerfile:2:1: R04: there is no such instruction here; did you mean RUN?
 // //     2 | RUNN make
 // //       | ^^^^

@@ -20,27 +20,28 @@ use pointed::Pointed;
 use sentences::{Message, Subject, code_of, headed, noted, place_line, remedy, sentence};
 use std::alloc::{AllocError, Global};
 
-/// What is shown of faults of a build of this target with images of these names, in their order and in this form, whose lines are counted in this text: a
-/// Dockerfile's, or that of its ignore file. It need not be UTF-8: what isn't is shown as U+FFFD. Of a number that the text hasn't no line is shown, or an
-/// empty one where one is shown alone.
+/// What is shown of faults of a build of this target with images of these names, in their order and in this form, whose lines are counted in this text: that
+/// of the Dockerfile, which is the file of this name, or of its ignore file, which is called `.dockerignore`. It need not be UTF-8: what isn't is shown as
+/// U+FFFD. Of a number that the text hasn't no line is shown, or an empty one where one is shown alone.
 ///
 /// A fault is shown with all lines of its instruction, and with what `message_by` of `meant` says of it. Of a word that a fault is about, as far as the lines
 /// tell it, the column is shown, and to a person its line alone, with a mark under it.
 ///
-/// To a person a character that can't be seen, other than a tab, is shown by its number, as `\x1b` or `\u200b`, in a line as in what is said of it, so none
-/// gives orders to a terminal. A program gets both as they stand.
+/// To a person a character that can't be seen, other than a tab, is shown by its number, as `\x1b` or `\u200b`, in a line, in what is said of it and in the
+/// file's name, so none gives orders to a terminal. A program gets all of them as they stand.
 pub fn shown_faults(
     alloc: Global,
+    file: &str,
     faults: &[Rejection],
     target: Option<&Text>,
     images: &[Text],
     text: &[u8],
     form: Form,
 ) -> Result<Text, Memory>
-    ensures { IfOk result (λ shown. shown ≡ shown_faults form (option_copied target.entry) images.now (readable_lines text.now) faults.now) }
+    ensures { IfOk result (λ shown. shown ≡ shown_faults file.now form (option_copied target.entry) images.now (readable_lines text.now) faults.now) }
 {
     let readable = String::from_utf8_lossy(alloc, text)?;
-    let shown = shown_in(alloc, faults, target, images, readable.as_str(), form)?;
+    let shown = shown_in(alloc, file, faults, target, images, readable.as_str(), form)?;
     Ok(Text::from_string(shown))
 }
 
@@ -74,6 +75,7 @@ fn shown_flaw(alloc: Global, flaw: &Flaw, form: Form) -> Result<String, Memory>
 /// What is shown of a bundle's faults: those of bytes that are no bundle with where they are wrong, and others as `shown_faults` shows them.
 pub(crate) fn shown_check(
     alloc: Global,
+    file: &str,
     flaw: Option<&Flaw>,
     target: Option<&Text>,
     images: &[Text],
@@ -81,46 +83,48 @@ pub(crate) fn shown_check(
     text: &[u8],
     form: Form,
 ) -> Result<Text, Memory>
-    ensures { IfOk result (λ shown. shown ≡ shown_check form (option_copied flaw.entry) (option_copied target.entry) images.now (readable_lines text.now) faults.now) }
+    ensures { IfOk result (λ shown. shown ≡ shown_check file.now form (option_copied flaw.entry) (option_copied target.entry) images.now (readable_lines text.now) faults.now) }
 {
     match flaw {
         Some(flaw) => Ok(Text::from_string(shown_flaw(alloc, flaw, form)?)),
-        None => shown_faults(alloc, faults, target, images, text, form),
+        None => shown_faults(alloc, file, faults, target, images, text, form),
     }
 }
 
 /// What `shown_faults` shows of a text that is UTF-8.
 fn shown_in(
     alloc: Global,
+    file: &str,
     faults: &[Rejection],
     target: Option<&Text>,
     images: &[Text],
     text: &str,
     form: Form,
 ) -> Result<String, Memory>
-    ensures { IfOk result (λ shown. string_bytes shown ≡ shown_faults form (option_copied target.entry) images.now (text_lines text.now) faults.now) }
+    ensures { IfOk result (λ shown. string_bytes shown ≡ shown_faults file.now form (option_copied target.entry) images.now (text_lines text.now) faults.now) }
 {
     if faults.is_empty() {
         return Ok(String::new(alloc));
     }
     let lines = lines_of(alloc, text)?;
-    shown_each(alloc, faults, target, images, lines.as_slice(), form)
+    shown_each(alloc, file, faults, target, images, lines.as_slice(), form)
 }
 
 /// What is shown of faults, one after another, their lines being among these.
 fn shown_each(
     alloc: Global,
+    file: &str,
     faults: &[Rejection],
     target: Option<&Text>,
     images: &[Text],
     lines: &[&str],
     form: Form,
 ) -> Result<String, Memory>
-    ensures { IfOk result (λ shown. string_bytes shown ≡ shown_faults form (option_copied target.entry) images.now (map (λ line. line.now) lines.now) faults.now) }
+    ensures { IfOk result (λ shown. string_bytes shown ≡ shown_faults file.now form (option_copied target.entry) images.now (map (λ line. line.now) lines.now) faults.now) }
 {
     let mut text = String::new(alloc);
     for fault in faults {
-        let shown = shown_fault(alloc, fault, target, images, lines, form)?;
+        let shown = shown_fault(alloc, file, fault, target, images, lines, form)?;
         text.push_str(shown.as_str())?;
     }
     Ok(text)
@@ -182,13 +186,14 @@ fn word_in<'a>(found: &Option<(usize, Pointed<'a>)>) -> Option<&'a str>
 /// What is shown of a fault of a file with these lines.
 fn shown_fault(
     alloc: Global,
+    file: &str,
     fault: &Rejection,
     target: Option<&Text>,
     images: &[Text],
     lines: &[&str],
     form: Form,
 ) -> Result<String, Memory>
-    ensures { IfOk result (λ text. string_bytes text ≡ shown_fault form (option_copied target.entry) images.now (map (λ line. line.now) lines.now) fault.now) }
+    ensures { IfOk result (λ text. string_bytes text ≡ shown_fault file.now form (option_copied target.entry) images.now (map (λ line. line.now) lines.now) fault.now) }
 {
     let own = own_in(alloc, &fault.reason, lines, fault.line)?;
     let found = spot_by(alloc, &fault.reason, own.as_slice())?;
@@ -206,6 +211,7 @@ fn shown_fault(
     let marked = marked_by(alloc, &fault.reason, found)?;
     shown_told(
         alloc,
+        file,
         fault,
         own.as_slice(),
         &message,
@@ -217,30 +223,31 @@ fn shown_fault(
 /// What is shown of a fault that is about these lines, with what is said of it and the word that is marked.
 fn shown_told(
     alloc: Global,
+    file: &str,
     fault: &Rejection,
     own: &[&str],
     message: &Message,
     marked: Option<&Marked>,
     form: Form,
 ) -> Result<String, Memory>
-    ensures { IfOk result (λ text. string_bytes text ≡ shown_told form fault.now (map (λ line. line.now) own.now) message.now (option_copied marked.entry)) }
+    ensures { IfOk result (λ text. string_bytes text ≡ shown_told file.now form fault.now (map (λ line. line.now) own.now) message.now (option_copied marked.entry)) }
 {
     let code = code_of(alloc, &fault.reason)?;
-    let (file, code) = (place_of(&fault.reason), code.as_str());
+    let (place, code) = (place_of(file, &fault.reason), code.as_str());
     match form {
-        Form::Plain => shown_plain(alloc, file, code, fault.line, own, message, marked),
-        Form::Json => shown_json(alloc, file, code, fault.line, own, message, marked),
+        Form::Plain => shown_plain(alloc, place, code, fault.line, own, message, marked),
+        Form::Json => shown_json(alloc, place, code, fault.line, own, message, marked),
     }
 }
 
 /// What a line is in that is refused for this reason.
-fn place_of(reason: &Reason) -> &'static str
-    ensures { result.now ≡ place_of reason.now }
+fn place_of<'a>(file: &'a str, reason: &Reason) -> &'a str
+    ensures { result.now ≡ place_of file.now reason.now }
 {
     match reason {
         Reason::Coded(Code::R19) => ".dockerignore",
         Reason::Coded(Code::R20) => "bundle",
-        Reason::Coded(_) | Reason::Required(_) => "Dockerfile",
+        Reason::Coded(_) | Reason::Required(_) => file,
     }
 }
 

@@ -74,46 +74,46 @@ left_none bytes source true is = absurd (true≢false is)
 left_none bytes source false is = refl
 
 -- what is shown of an instruction of which no source is known that it misses
-pub plain_shown : {E : Type 0} (bytes : List ℕ) (lines : List (List ℕ)) (line : ℕ) (cause : Cause) (found : Option Missed) (result : Result (List ℕ) E)
-    → found ≡ None → IfOk result (λ text. text ≡ shown_failure lines line cause) → IfOk result (ShowsMissed bytes lines line cause found)
-plain_shown bytes lines line cause found (Ok text) none is = subst (λ f. ShowsMissed bytes lines line cause f text) (sym none) is
-plain_shown bytes lines line cause found (Err memory) none is = is
+pub plain_shown : {E : Type 0} (file bytes : List ℕ) (lines : List (List ℕ)) (line : ℕ) (cause : Cause) (found : Option Missed) (result : Result (List ℕ) E)
+    → found ≡ None → IfOk result (λ text. text ≡ shown_failure file lines line cause) → IfOk result (ShowsMissed file bytes lines line cause found)
+plain_shown file bytes lines line cause found (Ok text) none is = subst (λ f. ShowsMissed file bytes lines line cause f text) (sym none) is
+plain_shown file bytes lines line cause found (Err memory) none is = is
 
 -- what is shown of a COPY that misses this source
-pub source_shown : {E : Type 0} (bytes : List ℕ) (lines : List (List ℕ)) (line : ℕ) (cause : Cause) (found : Option Missed) (here : Missed) (source : List ℕ)
+pub source_shown : {E : Type 0} (file bytes : List ℕ) (lines : List (List ℕ)) (line : ℕ) (cause : Cause) (found : Option Missed) (here : Missed) (source : List ℕ)
     (left : Option LeavingLine) (result : Result (List ℕ) E) → found ≡ Some here → source ≡ here.source → IsLeftOutBy bytes source here.is_context_path left
-    → IfOk result (λ text. text ≡ shown_missed lines line source left) → IfOk result (ShowsMissed bytes lines line cause found)
-source_shown bytes lines line cause found here source left (Ok text) some same leaves is =
-    subst (λ f. ShowsMissed bytes lines line cause f text) (sym some) (
+    → IfOk result (λ text. text ≡ shown_missed file lines line source left) → IfOk result (ShowsMissed file bytes lines line cause found)
+source_shown file bytes lines line cause found here source left (Ok text) some same leaves is =
+    subst (λ f. ShowsMissed file bytes lines line cause f text) (sym some) (
       left,
       subst (λ s. IsLeftOutBy bytes s here.is_context_path left) same leaves,
-      is ∙ ap (λ s. shown_missed lines line s left) same,
+      is ∙ ap (λ s. shown_missed file lines line s left) same,
     )
-source_shown bytes lines line cause found here source left (Err memory) some same leaves is = is
+source_shown file bytes lines line cause found here source left (Err memory) some same leaves is = is
 
 -- what is shown of an instruction that fails
-pub failure_shown : {E : Type 0} (bytes text dockerfile : List ℕ) (line : ℕ) (cause : Cause) (found : Option Missed) (result : Result (List ℕ) E)
+pub failure_shown : {E : Type 0} (file bytes text dockerfile : List ℕ) (line : ℕ) (cause : Cause) (found : Option Missed) (result : Result (List ℕ) E)
     → IsDockerfileOf bytes dockerfile → text ≡ dockerfile → IsMissedOf bytes line cause found
-    → IfOk result (ShowsMissed bytes (readable_lines text) line cause found) → IfOk result (ShowsFailure bytes line cause)
-failure_shown bytes text dockerfile line cause found (Ok shown) has same misses shows =
+    → IfOk result (ShowsMissed file bytes (readable_lines text) line cause found) → IfOk result (ShowsFailure file bytes line cause)
+failure_shown file bytes text dockerfile line cause found (Ok shown) has same misses shows =
     let lines = ap readable_lines (same ∙ has.2) in (
       has.0,
       has.1,
       (
         misses.0,
         misses.1,
-        subst (λ f. ShowsMissed bytes (readable_lines has.0.dockerfile) line cause f shown) misses.2
-            (subst (λ (ls : List (List ℕ)). ShowsMissed bytes ls line cause found shown) lines shows),
+        subst (λ f. ShowsMissed file bytes (readable_lines has.0.dockerfile) line cause f shown) misses.2
+            (subst (λ (ls : List (List ℕ)). ShowsMissed file bytes ls line cause found shown) lines shows),
       ),
     )
-failure_shown bytes text dockerfile line cause found (Err memory) has same misses shows = shows
+failure_shown file bytes text dockerfile line cause found (Err memory) has same misses shows = shows
 
 -- a bundle that is refused
-pub faults_told : {E : Type 0} (out : Out) (bytes : List ℕ) (fault : Fault Rejection) (refusal : Rejection) (result : Result Explained E)
+pub faults_told : {E : Type 0} (file : List ℕ) (out : Out) (bytes : List ℕ) (fault : Fault Rejection) (refusal : Rejection) (result : Result Explained E)
     → fault ≡ Because refusal → IsAsked bytes (Err fault) → IfOk result (λ told. told.status ≡ Refused)
-    → IfOk result (λ told. (checked : Checked) × IsCheckOf bytes Plain checked × (told.text ≡ checked.text))
-    → IfOk result (λ told. Explains out bytes told.status told.text)
-faults_told out bytes fault refusal (Ok told) because asked status text =
-    subst (λ s. Explains out bytes s told.text) (sym status)
+    → IfOk result (λ told. (checked : Checked) × IsCheckOf file bytes Plain checked × (told.text ≡ checked.text))
+    → IfOk result (λ told. Explains file out bytes told.status told.text)
+faults_told file out bytes fault refusal (Ok told) because asked status text =
+    subst (λ s. Explains file out bytes s told.text) (sym status)
     (refusal, record { asked = Err refusal; asks = subst (λ f. IsAsked bytes (Err f)) because asked; tells = refl }, text)
-faults_told out bytes fault refusal (Err memory) because asked status text = status
+faults_told file out bytes fault refusal (Err memory) because asked status text = status

@@ -35,7 +35,7 @@ pub struct Explained {
     pub text: Text,
 }
 
-/// What a person is told of the build of the bundle of these bytes.
+/// What a person is told of the build of the bundle of these bytes, whose Dockerfile is the file of this name.
 ///
 /// The bundle is built by this many workers, 1 to 64, as `run_build` builds it, and its answer isn't written. `Memory` says nothing of it. Nothing says
 /// that it returns, since it may wait.
@@ -43,18 +43,19 @@ pub fn explain<E: Executor>(
     alloc: Global,
     keys: RandomState,
     rt: &(impl Threads + Wait + Sync),
+    file: &str,
     bytes: &[u8],
     executor: &E,
     workers: u32,
 ) -> Result<Explained, Memory>
     requires { (0 < workers) × (workers ≤ most_workers) }
-    ensures { IfOk result (λ explained. Explains (E.out executor.now) bytes.now explained.status explained.text) }
+    ensures { IfOk result (λ explained. Explains file.now (E.out executor.now) bytes.now explained.status explained.text) }
 {
     match ask(alloc, keys, rt, bytes) {
-        Ok(asked) => explain_asked(alloc, keys, rt, bytes, asked, executor, workers),
+        Ok(asked) => explain_asked(alloc, keys, rt, file, bytes, asked, executor, workers),
         Err(Fault::Because(refusal)) => {
             drop(refusal);
-            explain_faults(alloc, keys, rt, bytes)
+            explain_faults(alloc, keys, rt, file, bytes)
         }
         Err(Fault::Memory) => Err(Memory),
     }
@@ -65,6 +66,7 @@ fn explain_asked<E: Executor>(
     alloc: Global,
     keys: RandomState,
     rt: &(impl Threads + Wait + Sync),
+    file: &str,
     bytes: &[u8],
     asked: Asked,
     executor: &E,
@@ -74,10 +76,10 @@ fn explain_asked<E: Executor>(
     requires asks { Asks bytes.now (OkOf asked.evaluated) }
     requires lowerable { IsLowerable asked.evaluated }
     requires idle { asked.caches.holds ≡ [] }
-    ensures { IfOk result (λ explained. Explains (E.out executor.now) bytes.now explained.status explained.text) }
+    ensures { IfOk result (λ explained. Explains file.now (E.out executor.now) bytes.now explained.status explained.text) }
 {
     match failure_of(alloc, rt, asked, executor, workers) {
-        Ok(Some((line, cause))) => explain_failure(alloc, keys, rt, bytes, line, cause),
+        Ok(Some((line, cause))) => explain_failure(alloc, keys, rt, file, bytes, line, cause),
         Ok(None) => Ok(explain_nothing(alloc)),
         Err(memory) => Err(memory),
     }
@@ -99,15 +101,16 @@ fn explain_failure(
     alloc: Global,
     keys: RandomState,
     rt: &(impl Threads + Sync),
+    file: &str,
     bytes: &[u8],
     line: u32,
     cause: Cause,
 ) -> Result<Explained, Memory>
     requires { IsAccepted bytes.now }
     ensures status { IfOk result (λ explained. explained.status ≡ Failed) }
-    ensures text { IfOk result (λ explained. ShowsFailure bytes.now line cause explained.text) }
+    ensures text { IfOk result (λ explained. ShowsFailure file.now bytes.now line cause explained.text) }
 {
-    let text = show_failure(alloc, keys, rt, bytes, line, cause)?;
+    let text = show_failure(alloc, keys, rt, file, bytes, line, cause)?;
     Ok(Explained {
         status: Status::Failed,
         text,
@@ -119,12 +122,13 @@ fn show_failure(
     alloc: Global,
     keys: RandomState,
     rt: &(impl Threads + Sync),
+    file: &str,
     bytes: &[u8],
     line: u32,
     cause: Cause,
 ) -> Result<Text, Memory>
     requires { IsAccepted bytes.now }
-    ensures { IfOk result (ShowsFailure bytes.now line cause) }
+    ensures { IfOk result (ShowsFailure file.now bytes.now line cause) }
 {
     let dockerfile = dockerfile_of(alloc, keys, rt, bytes)?;
     let missed = missed_of(alloc, keys, rt, bytes, line, cause)?;
@@ -132,6 +136,7 @@ fn show_failure(
         alloc,
         keys,
         rt,
+        file,
         bytes,
         dockerfile.as_slice(),
         line,
@@ -222,6 +227,7 @@ fn show_missed(
     alloc: Global,
     keys: RandomState,
     rt: &(impl Threads + Sync),
+    file: &str,
     bytes: &[u8],
     dockerfile: &[u8],
     line: u32,
@@ -229,14 +235,14 @@ fn show_missed(
     missed: Option<Missed>,
 ) -> Result<Text, Memory>
     requires { IsAccepted bytes.now }
-    ensures { IfOk result (ShowsMissed bytes.now (readable_lines dockerfile.now) line cause missed) }
+    ensures { IfOk result (ShowsMissed file.now bytes.now (readable_lines dockerfile.now) line cause missed) }
 {
     match missed {
-        None => shown_failure(alloc, dockerfile, line, cause),
+        None => shown_failure(alloc, file, dockerfile, line, cause),
         Some(missed) => {
             let source = missed.source.as_str();
             let left = left_out_by(alloc, keys, rt, bytes, source, missed.is_context_path)?;
-            show_source(alloc, dockerfile, line, source, left)
+            show_source(alloc, file, dockerfile, line, source, left)
         }
     }
 }
@@ -244,17 +250,19 @@ fn show_missed(
 /// What is shown of a COPY that misses a source, by the line of the ignore file that leaves it out, if one does.
 fn show_source(
     alloc: Global,
+    file: &str,
     dockerfile: &[u8],
     line: u32,
     source: &str,
     left: Option<LeavingLine>,
 ) -> Result<Text, Memory>
-    ensures { IfOk result (λ text. text ≡ shown_missed (readable_lines dockerfile.now) line source.now left) }
+    ensures { IfOk result (λ text. text ≡ shown_missed file.now (readable_lines dockerfile.now) line source.now left) }
 {
     match left {
-        None => shown_missing(alloc, dockerfile, line, source),
+        None => shown_missing(alloc, file, dockerfile, line, source),
         Some(left) => shown_left_out(
             alloc,
+            file,
             dockerfile,
             line,
             source,
@@ -269,12 +277,13 @@ fn explain_faults(
     alloc: Global,
     keys: RandomState,
     rt: &(impl Threads + Sync),
+    file: &str,
     bytes: &[u8],
 ) -> Result<Explained, Memory>
     ensures status { IfOk result (λ explained. explained.status ≡ Refused) }
-    ensures text { IfOk result (λ explained. (checked : Checked) × IsCheckOf bytes.now Plain checked × (explained.text ≡ checked.text)) }
+    ensures text { IfOk result (λ explained. (checked : Checked) × IsCheckOf file.now bytes.now Plain checked × (explained.text ≡ checked.text)) }
 {
-    let Checked { text, is_sound: _ } = check(alloc, keys, rt, bytes, Form::Plain)?;
+    let Checked { text, is_sound: _ } = check(alloc, keys, rt, file, bytes, Form::Plain)?;
     Ok(Explained {
         status: Status::Refused,
         text,

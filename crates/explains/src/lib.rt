@@ -7,7 +7,7 @@
 // The central definition is `Explains` in specs/Explained.antt.
 //
 // ```
-// let explained = explain(alloc, keys, &rt, bytes, &Fixture, 4)?; // of a bundle with the Dockerfile FROM scratch\nCOPY nope /d
+// let explained = explain(alloc, keys, &rt, "Dockerfile", bytes, &Fixture, 4)?; // of a bundle with the Dockerfile FROM scratch\nCOPY nope /d
 // // Dockerfile:2: F1: a source isn't there: nope
 // //     2 | COPY nope /d
 // //       | name a file that the context, the stage or the image has

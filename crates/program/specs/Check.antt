@@ -1,5 +1,5 @@
 -- What is written of the faults of a bundle, and how that ends (own).
-use Rattle.std.specs.Prelude.{◌≡◌, ℕ, Bool, true, false, List, Result}
+use Rattle.std.specs.Prelude.{◌≡◌, ℕ, Bool, true, false, List, Result, codes}
 use Rattle.checks.specs.Checked.{IsCheckOf}
 use Rattle.checks.specs.declared.checked.Checked.{Checked}
 use Rattle.checks.specs.declared.form.Form.{Form}
@@ -18,8 +18,8 @@ form_by false = Plain
 -- What is written of a bundle of these bytes: all its faults in a form, which is nothing if there is none. What a build refuses is such a fault, so
 -- no bundle is refused.
 abbrev pub TellsFaults : Form → List ℕ → Status → List ℕ → Type 0
-TellsFaults form bytes Built text = (checked : Checked) × IsCheckOf bytes form checked × (checked.is_sound ≡ true) × (text ≡ checked.text)
-TellsFaults form bytes Failed text = (checked : Checked) × IsCheckOf bytes form checked × (checked.is_sound ≡ false) × (text ≡ checked.text)
+TellsFaults form bytes Built text = (checked : Checked) × IsCheckOf (codes "Dockerfile") bytes form checked × (checked.is_sound ≡ true) × (text ≡ checked.text)
+TellsFaults form bytes Failed text = (checked : Checked) × IsCheckOf (codes "Dockerfile") bytes form checked × (checked.is_sound ≡ false) × (text ≡ checked.text)
 TellsFaults form bytes Refused text = ⊥
 
 -- how writing it ends; it never stops

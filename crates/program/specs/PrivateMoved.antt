@@ -1,6 +1,6 @@
 -- What is told of a bundle is told of every one that holds the same: the laws of the tellers. They stand among the definitions since the tellers cite
 -- them as laws of their trait.
-use Rattle.std.proofs.Common.{◌≡◌, inl, inr, ℕ, Bool, true, false, List, Option, Some, None, Result, Ok, Err, sym, ap, ◌∙◌}
+use Rattle.std.proofs.Common.{◌≡◌, codes, inl, inr, ℕ, Bool, true, false, List, Option, Some, None, Result, Ok, Err, sym, ap, ◌∙◌}
 use Rattle.plain.specs.declared.refusal.Refusal.{Refusal}
 use Rattle.plain.specs.declared.fault.Fault.TheVariants.{Because}
 use Rattle.expand.specs.declared.reason.Rejection.{Rejection}
@@ -51,19 +51,19 @@ faults_moved : (bytes others : List ℕ) (faults : List Rejection) → held byte
 faults_moved bytes others faults same (inl told) = inl (told.0, refused bytes others told.0 same told.1, told.2)
 faults_moved bytes others faults same (inr read) = inr (read.0, (read.1.0, (sym same ∙ read.1.1.0, read.1.1.1)), read.2)
 
-checked_moved : (bytes others : List ℕ) (form : Form) (checked : Checked) → HoldsSame bytes others → IsCheckOf bytes form checked → IsCheckOf others form checked
-checked_moved bytes others form checked same is = record {
+checked_moved : (file bytes others : List ℕ) (form : Form) (checked : Checked) → HoldsSame bytes others → IsCheckOf file bytes form checked → IsCheckOf file others form checked
+checked_moved file bytes others form checked same is = record {
   faults = is.faults;
   are = faults_moved bytes others is.faults same.parts is.are;
-  text = is.text ∙ (ap (λ (flaw : Option Flaw). shown_check form flaw (target_in (held bytes)) (image_names bytes) (readable_lines (faulty_text_in (held bytes))) is.faults) same.flaw
-      ∙ ap (λ parts. shown_check form (flaw_in config_in others) (target_in parts) (image_names bytes) (readable_lines (faulty_text_in parts)) is.faults) same.parts
-      ∙ ap (λ (names : List (List ℕ)). shown_check form (flaw_in config_in others) (target_in (held others)) names (readable_lines (faulty_text_in (held others))) is.faults) same.names);
+  text = is.text ∙ (ap (λ (flaw : Option Flaw). shown_check file form flaw (target_in (held bytes)) (image_names bytes) (readable_lines (faulty_text_in (held bytes))) is.faults) same.flaw
+      ∙ ap (λ parts. shown_check file form (flaw_in config_in others) (target_in parts) (image_names bytes) (readable_lines (faulty_text_in parts)) is.faults) same.parts
+      ∙ ap (λ (names : List (List ℕ)). shown_check file form (flaw_in config_in others) (target_in (held others)) names (readable_lines (faulty_text_in (held others))) is.faults) same.names);
   is_sound = is.is_sound;
 }
 
 pub check_moves : (form : Form) → Moves (TellsFaults form)
-check_moves form bytes bundle Built text same told = (told.0, checked_moved bytes bundle form told.0 same told.1, told.2, told.3)
-check_moves form bytes bundle Failed text same told = (told.0, checked_moved bytes bundle form told.0 same told.1, told.2, told.3)
+check_moves form bytes bundle Built text same told = (told.0, checked_moved (codes "Dockerfile") bytes bundle form told.0 same told.1, told.2, told.3)
+check_moves form bytes bundle Failed text same told = (told.0, checked_moved (codes "Dockerfile") bytes bundle form told.0 same told.1, told.2, told.3)
 check_moves form bytes bundle Refused text same told = told
 
 -- the same configuration
@@ -131,16 +131,16 @@ left_out_moved bytes others source false left same is = is
 left_out_moved bytes others source true left same is = (is.0, record { parts = is.1.parts; is = sym same ∙ is.1.is; has = is.1.has }, is.2)
 
 -- the same is shown of a source
-missed_moved : (bytes others : List ℕ) (lines : List (List ℕ)) (line : ℕ) (cause : Cause) (found : Option Missed) (text : List ℕ)
-    → held bytes ≡ held others → ShowsMissed bytes lines line cause found text → ShowsMissed others lines line cause found text
-missed_moved bytes others lines line cause None text same shown = shown
-missed_moved bytes others lines line cause (Some found) text same shown =
+missed_moved : (file bytes others : List ℕ) (lines : List (List ℕ)) (line : ℕ) (cause : Cause) (found : Option Missed) (text : List ℕ)
+    → held bytes ≡ held others → ShowsMissed file bytes lines line cause found text → ShowsMissed file others lines line cause found text
+missed_moved file bytes others lines line cause None text same shown = shown
+missed_moved file bytes others lines line cause (Some found) text same shown =
     (shown.0, left_out_moved bytes others found.source found.is_context_path shown.0 same shown.1, shown.2)
 
 -- and the same explanation
-pub explain_moves : (out : Out) → Moves (Explains out)
-explain_moves out bytes bundle Built text same told = (told.0, answers_moved bytes bundle out Built _ same.parts told.1, told.2)
-explain_moves out bytes bundle Failed text same told =
+pub explain_moves : (file : List ℕ) (out : Out) → Moves (Explains file out)
+explain_moves file out bytes bundle Built text same told = (told.0, answers_moved bytes bundle out Built _ same.parts told.1, told.2)
+explain_moves file out bytes bundle Failed text same told =
     let shows = told.3 in
     let reads = shows.1 in
     let asked = shows.2 in (
@@ -153,13 +153,13 @@ explain_moves out bytes bundle Failed text same told =
         (
           asked.0,
           asks bytes bundle (Ok asked.0) same.parts asked.1,
-          missed_moved bytes bundle (readable_lines shows.0.dockerfile) told.0 told.1 (missed_source asked.0.sources asked.0.rows told.0 told.1) text same.parts asked.2,
+          missed_moved file bytes bundle (readable_lines shows.0.dockerfile) told.0 told.1 (missed_source asked.0.sources asked.0.rows told.0 told.1) text same.parts asked.2,
         ),
       ),
     )
-explain_moves out bytes bundle Refused text same told =
+explain_moves file out bytes bundle Refused text same told =
     let shows = told.2 in
-    (told.0, answers_moved bytes bundle out Refused _ same.parts told.1, (shows.0, checked_moved bytes bundle Plain shows.0 same shows.1, shows.2))
+    (told.0, answers_moved bytes bundle out Refused _ same.parts told.1, (shows.0, checked_moved file bytes bundle Plain shows.0 same shows.1, shows.2))
 
 -- and one of which nothing is due is of no bundle
 pub never_moves : MovesStops never

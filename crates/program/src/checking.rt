@@ -53,7 +53,7 @@ fn tell_faults(
 ) -> Result<Told, Memory>
     ensures { IfOk result (λ told. TellsFaults form bundle.now told.status told.text) }
 {
-    let Checked { text, is_sound } = check(alloc, keys, rt, bundle, form)?;
+    let Checked { text, is_sound } = check(alloc, keys, rt, "Dockerfile", bundle, form)?;
     let text = Bytes::from_vec(text.into_string(alloc)?.into_bytes());
     if is_sound {
         return Ok(Told {

@@ -1,7 +1,7 @@
 // Which instruction of a bundle fails, and why.
 //
 // This is no teller of `telling`: the executor is shared with threads, and in a trait's method no bound of an executor says that it may be.
-ghost use Rattle.std.specs.Prelude.{◌≡◌, ◌<◌, ◌≤◌, ◌+◌, IfOk};
+ghost use Rattle.std.specs.Prelude.{◌≡◌, ◌<◌, ◌≤◌, ◌+◌, codes, IfOk};
 ghost use Rattle.counted.specs.Edges.{LosesBeginning};
 ghost use Rattle.plain.specs.Limits.{most_bundle_bytes};
 ghost use Rattle.build.specs.Ends.{devices};
@@ -88,7 +88,7 @@ fn tell_build<E: Executor>(
     bundle: &[u8],
     executor: &E,
 ) -> Result<Told, TellFault>
-    ensures { IsToldBy (Explains (E.out executor.now)) never bundle.now result }
+    ensures { IsToldBy (Explains (codes "Dockerfile") (E.out executor.now)) never bundle.now result }
 {
     Ok(tell_explained(alloc, keys, rt, bundle, executor)?)
 }
@@ -101,9 +101,17 @@ fn tell_explained<E: Executor>(
     bundle: &[u8],
     executor: &E,
 ) -> Result<Told, Memory>
-    ensures { IfOk result (λ told. Explains (E.out executor.now) bundle.now told.status told.text) }
+    ensures { IfOk result (λ told. Explains (codes "Dockerfile") (E.out executor.now) bundle.now told.status told.text) }
 {
-    let Explained { status, text } = explain(alloc, keys, rt, bundle, executor, WORKERS)?;
+    let Explained { status, text } = explain(
+        alloc,
+        keys,
+        rt,
+        "Dockerfile",
+        bundle,
+        executor,
+        WORKERS,
+    )?;
     Ok(Told {
         status,
         text: Bytes::from_vec(text.into_string(alloc)?.into_bytes()),
