@@ -20,12 +20,11 @@ pub later_lines : (count : ℕ) (lines : List (Bor (List ℕ))) → map (λ (lin
 later_lines count lines = sym (drop-map (λ (line : Bor (List ℕ)). line.now) count lines)
 
 -- the same, as they are cut off
-pub lines_cut : (above number : ℕ) (lines : List (Bor (List ℕ))) → above ≡ number - 1
-    → map (λ (line : Bor (List ℕ)). line.now) (take (length lines - above) (drop above lines)) ≡ drop (number - 1) (map (λ (line : Bor (List ℕ)). line.now) lines)
-lines_cut above number lines e =
+pub lines_cut : (above : ℕ) (lines : List (Bor (List ℕ)))
+    → map (λ (line : Bor (List ℕ)). line.now) (take (length lines - above) (drop above lines)) ≡ drop above (map (λ (line : Bor (List ℕ)). line.now) lines)
+lines_cut above lines =
     let count : length (drop above lines) ≡ length lines - above = length-drop above lines in
-    ap (map (λ (line : Bor (List ℕ)). line.now)) (take_all (length lines - above) (drop above lines) (omega arith))
-    ∙ (later_lines above lines ∙ ap (λ (n : ℕ). drop n (map (λ (line : Bor (List ℕ)). line.now) lines)) e)
+    ap (map (λ (line : Bor (List ℕ)). line.now)) (take_all (length lines - above) (drop above lines) (omega arith)) ∙ later_lines above lines
 
 -- and none if there are no more
 pub no_lines : (count : ℕ) (lines : List (Bor (List ℕ))) → length lines ≤ count → [] ≡ drop count (map (λ (line : Bor (List ℕ)). line.now) lines)

@@ -1,7 +1,9 @@
 pub mod Begun
 pub mod Escapes
+pub mod Faulty
 pub mod FirstWord
 pub mod Flags
+pub mod HeredocFaults
 pub mod MountTexts
 pub mod Mounts
 pub mod Named
@@ -9,3 +11,4 @@ pub mod Own
 pub mod Said
 pub mod Sources
 pub mod Told
+pub mod WordFaults

@@ -1,8 +1,7 @@
 -- What is said of a mount with which something is wrong (own).
 use Rattle.std.specs.Prelude.{◌++◌, ◌==◌, ◌||◌, ℕ, Bool, true, false, List, [], ◌∷◌, Option, Some, None, bytes_eq, codes, length, if◌then◌else◌}
 use Rattle.sentences.specs.declared.message.Message.{Message}
-use Rattle.meant.specs.Escapes.{is_whole}
-use Rattle.meant.specs.Mounts.{faulty_item, key_of, value_of_item}
+use Rattle.meant.specs.Mounts.{faulty_item, key_of, target_of, value_of_item, wrong_mount}
 use Rattle.meant.specs.Said.{said, said_near}
 use Rattle.meant.specs.declared.mounts.FaultyItem.{FaultyItem}
 use Rattle.meant.specs.declared.mounts.ItemFault.{ItemFault}
@@ -75,28 +74,29 @@ item_message cache item UnknownType = unknown_type (value_of_item item)
 item_message cache item WrongValue = wrong_value (key_of item) (value_of_item item)
 item_message cache item Twice = twice (key_of item)
 
--- of mounts each of whose items is fine
-abbrev pub whole_message : Bool → Message
-whole_message true = said (codes "a target is /, or two mounts clash")
-    (codes "give each mount a target that is neither / nor within another one's, and each cache an id of its own")
-whole_message false = said (codes "a mount has no target") (codes "write target=/path")
+-- of a mount each of whose items is fine, by its target
+abbrev pub target_told : Option (List ℕ) → Message
+target_told None = said (codes "a mount has no target") (codes "write target=/path")
+target_told (Some target) = said (codes "the target of a mount is /") (codes "give it a folder of its own, as target=/path")
 
--- of a flag that is no mount: of its first item with which something is wrong, and if there is none it has no target
-abbrev pub faulty_message : Option FaultyItem → Message
-faulty_message None = whole_message false
-faulty_message (Some found) = item_message found.is_cache found.item found.fault
+-- of mounts each of which is one
+abbrev pub clash : Message
+clash = said (codes "a target is /, or two mounts clash")
+    (codes "give each mount a target that is neither / nor within another one's, and each cache an id of its own")
+
+-- of a flag that is no mount: of its first item with which something is wrong, and if there is none of its target
+abbrev pub faulty_message : Option (List ℕ) → Option FaultyItem → Message
+faulty_message target None = target_told target
+faulty_message target (Some found) = item_message found.is_cache found.item found.fault
 
 unfoldable pub flag_message : List ℕ → Message
-flag_message flag = faulty_message (faulty_item flag)
+flag_message flag = faulty_message (target_of flag) (faulty_item flag)
 
--- a RUN has one line, in which no word may go on in the next one
-abbrev pub is_alone : List (List ℕ) → Bool
-is_alone [] = false
-is_alone (line ∷ []) = is_whole line
-is_alone (line ∷ next ∷ more) = false
+-- what is said of the mounts of a RUN, by the first flag of it that can be no mount
+abbrev pub mount_by : Option (List ℕ) → Message
+mount_by None = clash
+mount_by (Some flag) = flag_message flag
 
--- what is said of the mounts of a RUN, which has these lines, by the flag that is no mount, if one is known. If there is none on a line that stands alone,
--- each flag is one
-abbrev pub mount_message : List (List ℕ) → Option (List ℕ) → Option Message
-mount_message own (Some flag) = Some (flag_message flag)
-mount_message own None = if is_alone own then Some (whole_message true) else None
+-- the same by its text
+abbrev pub mount_message : List ℕ → Message
+mount_message text = mount_by (wrong_mount text)

@@ -1,8 +1,9 @@
 -- What is wrong with a mount of a RUN, by its items (own; the rules are those of `options`).
-use Rattle.std.specs.Prelude.{◌==◌, ◌||◌, ◌&&◌, ◌++◌, ℕ, Bool, true, false, not, List, [], ◌∷◌, Option, Some, None, bytes_eq, codes, length, option_map, unwrap_or, if◌then◌else◌}
+use Rattle.std.specs.Prelude.{◌==◌, ◌||◌, ◌&&◌, ◌++◌, ℕ, Bool, true, false, not, List, [], ◌∷◌, Option, Some, None, bytes_eq, codes, length, option_map, is_some, unwrap_or, if◌then◌else◌}
 use Rattle.std.specs.List.{list_any, slice_split}
 use Rattle.std.specs.Option.{option_and_then, option_or}
-use Rattle.ascii.specs.Pieces.{pieces}
+use Rattle.ascii.specs.Pieces.{behind_piece, pieces}
+use Rattle.lines.specs.Marks.{is_flag}
 use Rattle.words.specs.Pairs.{pair}
 use Rattle.meant.specs.Sources.{value_of}
 use Rattle.meant.specs.declared.mounts.FaultyItem.{FaultyItem}
@@ -126,3 +127,30 @@ line_binds line = list_any is_bind (pieces line)
 -- one of the lines of an instruction has
 abbrev pub has_bind : List (List ℕ) → Bool
 has_bind own = list_any line_binds own
+
+-- the target of a mount of these items
+abbrev pub target_among : List (List ℕ) → Option (List ℕ)
+target_among [] = None
+target_among (item ∷ items) = if has_name (codes "target") item then Some (value_of_item item) else target_among items
+
+-- the target of a flag `--mount`, if it has one
+unfoldable pub target_of : List ℕ → Option (List ℕ)
+target_of flag = option_and_then (λ mount. target_among (slice_split (λ c. c == 44) mount)) (value_of (codes "--mount") flag)
+
+-- a target is `/`, or there is none
+abbrev pub is_no_target : Option (List ℕ) → Bool
+is_no_target None = true
+is_no_target (Some target) = bytes_eq target (codes "/")
+
+-- a flag can be no mount beside others, whatever these are: an item of it is wrong, or it has no target, or that is `/`
+abbrev pub is_wrong_mount : List ℕ → Bool
+is_wrong_mount flag = is_some (faulty_item flag) || is_no_target (target_of flag)
+
+-- the first such flag among the leading ones of these pieces
+abbrev pub wrong_among : List (List ℕ) → Option (List ℕ)
+wrong_among [] = None
+wrong_among (piece ∷ pieces) = if is_flag piece then (if is_wrong_mount piece then Some piece else wrong_among pieces) else None
+
+-- the first such flag of a RUN of this text
+abbrev pub wrong_mount : List ℕ → Option (List ℕ)
+wrong_mount text = wrong_among (pieces (behind_piece text))

@@ -1,6 +1,6 @@
 -- What is said of a stage or an image that there isn't (own).
-use Rattle.std.specs.Prelude.{◌&&◌, ◌++◌, ◌-◌, ◌==◌, ℕ, Bool, not, List, [], ◌∷◌, Option, Some, None, codes, filter, length, nat_le, option_map, take, if◌then◌else◌}
-use Rattle.std.specs.List.{find, flat_map, list_any}
+use Rattle.std.specs.Prelude.{◌&&◌, ◌++◌, ◌-◌, ◌==◌, ℕ, Bool, not, List, [], ◌∷◌, Option, codes, filter, length, nat_le, option_map, take, if◌then◌else◌}
+use Rattle.std.specs.List.{find, list_any}
 use Rattle.std.specs.Option.{option_or}
 use Rattle.sentences.specs.declared.message.Message.{Message}
 use Rattle.meant.specs.Begun.{stages_in, ended_stages, is_unfinished}
@@ -63,8 +63,8 @@ missing_among name names =
 abbrev pub missing_source : List ℕ → List (List ℕ) → Message
 missing_source name names = missing_among name (whole_names names)
 
--- the name that a line asks for and that leads to none of these stages and images: that of a FROM as its variables have it, if that is known, or the first
--- one that is written so
+-- the name that a line asks for and that leads to none of these stages and images: `base`, which it asks for once its variables have their values, if that is
+-- known, or the first one that is written so
 abbrev pub astray : Option (List ℕ) → List (List ℕ) → List (List ℕ) → List ℕ → Option (List ℕ)
 astray base stages images line = option_or base (find (is_astray stages images) (sources_in line))
 
@@ -72,9 +72,9 @@ astray base stages images line = option_or base (find (is_astray stages images) 
 abbrev pub source_among : List (List ℕ) → Option (List ℕ) → List (List ℕ) → List ℕ → Option Message
 source_among images base stages line = option_map (λ name. missing_source name (stages ++ images)) (astray base stages images line)
 
--- the same on the line of this number of a file, beside the stages that end above it. There is none if a FROM above it may go on in the next line: a name that
--- leads to its stage would be taken for one that leads nowhere
+-- the same on the line of this number of a file, beside the stages that end above it. If a FROM above it may go on in the next line, a name that leads to its
+-- stage would be taken for one that leads nowhere, so none but `base` is known then, and no other name is near
 unfoldable pub source_message : List (List ℕ) → Option (List ℕ) → List (List ℕ) → ℕ → List ℕ → Option Message
 source_message images base lines number line =
     if are_few (length images) (length lines) && not (list_any is_unfinished (take (number - 1) lines))
-    then source_among images base (ended_stages (take number lines)) line else None
+    then source_among images base (ended_stages (take number lines)) line else option_map (λ name. missing_source name []) base

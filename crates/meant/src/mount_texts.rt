@@ -1,11 +1,10 @@
 // What is said of a mount with which something is wrong.
-ghost use Rattle.std.specs.Prelude.{◌≡◌, map, IfOk};
+ghost use Rattle.std.specs.Prelude.{◌≡◌, IfOk};
 ghost use Rattle.std.specs.Option.{option_copied};
 ghost use Rattle.std.specs.String.{string_bytes};
-ghost use Rattle.meant.specs.MountTexts.{key_help, unknown_key, no_value, other_type, type_help, unknown_type, wrong_value, untaken, twice, item_message, whole_message, flag_message, mount_message};
+ghost use Rattle.meant.specs.MountTexts.{key_help, unknown_key, no_value, other_type, type_help, unknown_type, wrong_value, untaken, twice, item_message, target_told, clash, flag_message, mount_message};
 
-use crate::escapes::is_whole;
-use crate::mounts::{ItemFault, faulty_item, key_of, value_of_item};
+use crate::mounts::{ItemFault, faulty_item, key_of, target_of, value_of_item, wrong_mount};
 use crate::said::{said, said_near, said_texts};
 use plain::Memory;
 use sentences::Message;
@@ -175,21 +174,32 @@ fn item_message(alloc: Global, cache: bool, item: &str, fault: ItemFault) -> Res
     }
 }
 
-/// What is said of mounts each of whose items is fine, by the flag that is no mount, if there is one.
-fn whole_message(alloc: Global, has_target: bool) -> Result<Message, Memory>
-    ensures { IfOk result (λ message. message ≡ whole_message has_target) }
+/// What is said of a mount each of whose items is fine, by its target.
+fn target_told(alloc: Global, target: Option<&str>) -> Result<Message, Memory>
+    ensures { IfOk result (λ message. message ≡ target_told (option_copied target.entry)) }
 {
-    if has_target {
-        let wrong = String::from_str(alloc, "a target is /, or two mounts clash")?;
-        said(
-            alloc,
-            wrong,
-            "give each mount a target that is neither / nor within another one's, and each cache an id of its own",
-        )
-    } else {
-        let wrong = String::from_str(alloc, "a mount has no target")?;
-        said(alloc, wrong, "write target=/path")
+    match target {
+        None => {
+            let wrong = String::from_str(alloc, "a mount has no target")?;
+            said(alloc, wrong, "write target=/path")
+        }
+        Some(_) => {
+            let wrong = String::from_str(alloc, "the target of a mount is /")?;
+            said(alloc, wrong, "give it a folder of its own, as target=/path")
+        }
     }
+}
+
+/// What is said of mounts each of which is one.
+fn clash(alloc: Global) -> Result<Message, Memory>
+    ensures { IfOk result (λ message. message ≡ clash) }
+{
+    let wrong = String::from_str(alloc, "a target is /, or two mounts clash")?;
+    said(
+        alloc,
+        wrong,
+        "give each mount a target that is neither / nor within another one's, and each cache an id of its own",
+    )
 }
 
 /// What is said of a flag that is no mount.
@@ -203,24 +213,19 @@ fn flag_message(alloc: Global, flag: &str) -> Result<Message, Memory>
             drop(found);
             message
         }
-        None => whole_message(alloc, false),
+        None => {
+            let target = target_of(alloc, flag)?;
+            target_told(alloc, target)
+        }
     }
 }
 
-/// What is said of the mounts of a RUN, which has these lines, by the flag that is no mount, if one is known. If there is none, each flag of a line alone is
-/// one that has no escape character, by which it may go on in the next line.
-pub(crate) fn mount_message(
-    alloc: Global,
-    own: &[&str],
-    flag: Option<&str>,
-) -> Result<Option<Message>, Memory>
-    ensures { IfOk result (λ message. message ≡ mount_message (map (λ line. line.now) own.now) (option_copied flag.entry)) }
+/// What is said of the mounts of a RUN of this text.
+pub(crate) fn mount_message(alloc: Global, text: &str) -> Result<Message, Memory>
+    ensures { IfOk result (λ message. message ≡ mount_message text.now) }
 {
-    match flag {
-        Some(flag) => Ok(Some(flag_message(alloc, flag)?)),
-        None => match own {
-            [line] if is_whole(line) => Ok(Some(whole_message(alloc, true)?)),
-            _ => Ok(None),
-        },
+    match wrong_mount(alloc, text)? {
+        Some(flag) => flag_message(alloc, flag),
+        None => clash(alloc),
     }
 }

@@ -3,10 +3,11 @@ ghost use Rattle.std.specs.Prelude.{◌≡◌, map, option_map, IfOk};
 ghost use Rattle.std.specs.List.{list_any};
 ghost use Rattle.std.specs.Option.{option_copied};
 ghost use Rattle.std.specs.String.{string_bytes};
-ghost use Rattle.meant.specs.Mounts.{key_of, value_in, value_of_item, key_name, is_of_bind, is_of_cache, fits, takes, has_name, fault_valued, fault_named, fault_in, first_kind, faulty, first_faulty, faulty_item, is_bind, line_binds, has_bind};
+ghost use Rattle.meant.specs.Mounts.{key_of, value_in, value_of_item, key_name, is_of_bind, is_of_cache, fits, takes, has_name, fault_valued, fault_named, fault_in, first_kind, faulty, first_faulty, faulty_item, is_bind, line_binds, has_bind, target_among, target_of, is_wrong_mount, wrong_among, wrong_mount};
 
 use crate::sources::{parts, value_of};
-use ascii::split_at_blanks;
+use ascii::{first_piece, split_at_blanks};
+use lines::is_flag;
 use plain::{Memory, Text};
 use std::alloc::Global;
 use words::pair;
@@ -320,4 +321,66 @@ pub fn has_bind(alloc: Global, own: &[&str]) -> Result<bool, Memory>
         }
     }
     Ok(false)
+}
+
+/// The target of a mount of these items.
+fn target_among<'a>(items: &[&'a str]) -> Option<&'a str>
+    ensures { option_map (λ target. target.now) result ≡ target_among (map (λ item. item.now) items.now) }
+{
+    for item in items {
+        if has_name("target", *item) {
+            return Some(value_of_item(*item));
+        }
+    }
+    None
+}
+
+/// The target of a flag `--mount`, if it has one.
+#[tactic(auto, unfolding(crate::specs::Mounts::target_of))]
+pub(crate) fn target_of<'a>(alloc: Global, flag: &'a str) -> Result<Option<&'a str>, Memory>
+    ensures { IfOk result (λ target. option_map (λ it. it.now) target ≡ target_of flag.now) }
+{
+    let Some(mount) = value_of("--mount", flag) else {
+        return Ok(None);
+    };
+    let items = parts(alloc, mount)?;
+    Ok(target_among(items.as_slice()))
+}
+
+/// Whether a flag can be no mount beside others, whatever these are: an item of it is wrong, or it has no target, or that is `/`.
+fn is_wrong_mount(alloc: Global, flag: &str) -> Result<bool, Memory>
+    ensures { IfOk result (λ is. is ≡ is_wrong_mount flag.now) }
+{
+    if let Some(found) = faulty_item(alloc, flag)? {
+        drop(found);
+        return Ok(true);
+    }
+    match target_of(alloc, flag)? {
+        Some(target) => Ok(target == "/"),
+        None => Ok(true),
+    }
+}
+
+/// The first such flag among the leading ones of these pieces.
+fn wrong_among<'a>(alloc: Global, pieces: &[&'a str]) -> Result<Option<&'a str>, Memory>
+    ensures { IfOk result (λ flag. option_map (λ it. it.now) flag ≡ wrong_among (map (λ piece. piece.now) pieces.now)) }
+{
+    for piece in pieces {
+        if !is_flag(*piece) {
+            return Ok(None);
+        }
+        if is_wrong_mount(alloc, *piece)? {
+            return Ok(Some(*piece));
+        }
+    }
+    Ok(None)
+}
+
+/// The first such flag of a RUN of this text.
+pub(crate) fn wrong_mount<'a>(alloc: Global, text: &'a str) -> Result<Option<&'a str>, Memory>
+    ensures { IfOk result (λ flag. option_map (λ it. it.now) flag ≡ wrong_mount text.now) }
+{
+    let (_, rest) = first_piece(text);
+    let pieces = split_at_blanks(alloc, rest)?;
+    wrong_among(alloc, pieces.as_slice())
 }

@@ -133,8 +133,8 @@ fn missing_source(alloc: Global, name: &str, names: &[&str]) -> Result<Message, 
     missing_among(alloc, name, names.as_slice())
 }
 
-/// The name that a line asks for and that leads to none of these stages and images: that of a FROM as its variables have it, if that is known, or the first
-/// one that is written so.
+/// The name that a line asks for and that leads to none of these stages and images: `base`, which it asks for once its variables have their values, if that is
+/// known, or the first one that is written so.
 fn astray<'a>(
     alloc: Global,
     base: Option<&'a str>,
@@ -180,11 +180,14 @@ pub(crate) fn source_message(
 ) -> Result<Option<Message>, Memory>
     ensures { IfOk result (λ message. message ≡ source_message images.now (option_copied base.entry) (map (λ line. line.now) lines.now) number line.now) }
 {
-    if !are_few(images.len(), lines.len())
-        || has_unfinished(lines_until(lines, number.saturating_sub(1)))
+    if are_few(images.len(), lines.len())
+        && !has_unfinished(lines_until(lines, number.saturating_sub(1)))
     {
-        return Ok(None);
+        let stages = ended_stages(alloc, lines_until(lines, number))?;
+        return source_among(alloc, images, base, stages, line);
     }
-    let stages = ended_stages(alloc, lines_until(lines, number))?;
-    source_among(alloc, images, base, stages, line)
+    match base {
+        Some(name) => Ok(Some(missing_source(alloc, name, &[])?)),
+        None => Ok(None),
+    }
 }

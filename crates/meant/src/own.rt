@@ -1,16 +1,19 @@
-// The lines of an instruction, by the lines of its file as they stand.
-ghost use Rattle.std.specs.Prelude.{◌≡◌, ◌-◌, Some, None, drop, map, option_map, IfOk, MatchOption};
-ghost use Rattle.meant.specs.Own.{ends_by, goes_on, says_backtick, is_directive_key, after_sharp, directive_cut, directive, escape_in, own_lines, own_of};
+// The lines of an instruction, and its text, by the lines of its file as they stand.
+ghost use Rattle.std.specs.Prelude.{◌≡◌, ◌-◌, Some, None, drop, length, map, option_map, IfOk, MatchOption};
+ghost use Rattle.std.specs.String.{string_bytes};
+ghost use Rattle.lines.specs.Blanks.{continued_part, ends_with, is_skipped};
+ghost use Rattle.lines.specs.Escape.{byte_of};
+ghost use Rattle.meant.specs.Own.{goes_on, says_backtick, is_directive_key, after_sharp, directive_cut, directive, escape_in, own_lines, own_of, lines_below, part_of, joined};
 
 use ascii::{after_blanks, before_blanks, trimmed};
+use lines::Escape;
 use plain::Memory;
 use std::alloc::Global;
 use words::pair;
 
 /// Whether the last byte of a text is this one.
-#[tactic(auto, unfolding(crate::specs::Own::ends_by))]
-fn ends_by(byte: u8, text: &[u8]) -> bool
-    ensures { result ≡ ends_by byte text.now }
+fn ends_with(text: &[u8], byte: u8) -> bool
+    ensures { result ≡ ends_with byte text.now }
 {
     if text.is_empty() {
         return false;
@@ -18,17 +21,35 @@ fn ends_by(byte: u8, text: &[u8]) -> bool
     text[text.len() - 1] == byte
 }
 
-/// Whether a logical line goes on after this line of it: it is blank or a comment, or ends in the escape character, which isn't escaped itself.
-#[tactic(auto, unfolding(crate::specs::Own::goes_on, crate::specs::Own::ends_by))]
-fn goes_on(escape: u8, line: &str) -> bool
-    ensures { result ≡ goes_on escape line.now }
+/// What a line adds to its instruction's text if it goes on, and nothing if it doesn't.
+fn continued_part(escape: Escape, line: &str) -> Option<&str>
+    ensures { option_map (λ part. part.now) result ≡ continued_part (byte_of escape) line.now }
+{
+    let kept = before_blanks(line);
+    if !ends_with(kept.as_bytes(), escape.byte()) {
+        return None;
+    }
+    let part = &kept[..kept.len() - 1];
+    if ends_with(part.as_bytes(), escape.byte()) {
+        return None;
+    }
+    Some(part)
+}
+
+/// Whether a line is blank or a comment.
+fn is_skipped(line: &str) -> bool
+    ensures { result ≡ is_skipped line.now }
 {
     let begin = after_blanks(line).as_bytes();
-    if begin.is_empty() || begin[0] == b'#' {
-        return true;
-    }
-    let text = before_blanks(line).as_bytes();
-    ends_by(escape, text) && !ends_by(escape, &text[..text.len() - 1])
+    begin.is_empty() || begin[0] == b'#'
+}
+
+/// Whether a logical line goes on after this line of it.
+#[tactic(auto, unfolding(crate::specs::Own::goes_on))]
+fn goes_on(escape: Escape, line: &str) -> bool
+    ensures { result ≡ goes_on escape line.now }
+{
+    is_skipped(line) || continued_part(escape, line).is_some()
 }
 
 /// Whether a key is that of a directive.
@@ -80,21 +101,21 @@ fn directive(line: &str) -> Option<bool>
 }
 
 /// The file's escape character, by the directives at its top.
-fn escape_in(lines: &[&str]) -> u8
+pub(crate) fn escape_in(lines: &[&str]) -> Escape
     ensures { result ≡ escape_in (map (λ line. line.now) lines.now) }
 {
     for line in lines {
         match directive(*line) {
-            Some(true) => return b'`',
+            Some(true) => return Escape::Backtick,
             Some(false) => {}
-            None => return b'\\',
+            None => return Escape::Backslash,
         }
     }
-    b'\\'
+    Escape::Backslash
 }
 
 /// The lines of the logical line that begins here.
-fn own_lines<'a>(alloc: Global, escape: u8, lines: &[&'a str]) -> Result<Vec<&'a str>, Memory>
+fn own_lines<'a>(alloc: Global, escape: Escape, lines: &[&'a str]) -> Result<Vec<&'a str>, Memory>
     ensures { IfOk result (λ own. map (λ line. line.now) own.items ≡ own_lines escape (map (λ line. line.now) lines.now)) }
 {
     let mut own = Vec::new(alloc);
@@ -107,16 +128,29 @@ fn own_lines<'a>(alloc: Global, escape: u8, lines: &[&'a str]) -> Result<Vec<&'a
     Ok(own)
 }
 
-/// The lines from the one of this number on, which counts from 1.
+/// The lines after so many.
 #[tactic(auto, using(crate::proofs::LineFacts::no_lines))]
+fn lines_after<'a, 'b>(lines: &'b [&'a str], count: usize) -> &'b [&'a str]
+    ensures { map (λ line. line.now) result.now ≡ drop count (map (λ line. line.now) lines.now) }
+{
+    if count < lines.len() {
+        return &lines[count..];
+    }
+    &[]
+}
+
+/// The lines from the one of this number on, which counts from 1.
 fn lines_from<'a, 'b>(lines: &'b [&'a str], number: u32) -> &'b [&'a str]
     ensures { map (λ line. line.now) result.now ≡ drop (number - 1) (map (λ line. line.now) lines.now) }
 {
-    let above = (number as usize).saturating_sub(1);
-    if above < lines.len() {
-        return &lines[above..];
-    }
-    &[]
+    lines_after(lines, (number as usize).saturating_sub(1))
+}
+
+/// The lines below those of an instruction, of which the first has this number.
+pub(crate) fn lines_below<'a, 'b>(lines: &'b [&'a str], own: &[&str], number: u32) -> &'b [&'a str]
+    ensures { map (λ line. line.now) result.now ≡ lines_below (map (λ line. line.now) lines.now) (map (λ line. line.now) own.now) number }
+{
+    lines_after(lines_from(lines, number), own.len())
 }
 
 /// The lines of the instruction that begins on the line of this number, in a file of these lines; none if it has no such line. Those of its heredocs
@@ -125,4 +159,28 @@ pub fn own_of<'a>(alloc: Global, lines: &[&'a str], number: u32) -> Result<Vec<&
     ensures { IfOk result (λ own. map (λ line. line.now) own.items ≡ own_of (map (λ line. line.now) lines.now) number) }
 {
     own_lines(alloc, escape_in(lines), lines_from(lines, number))
+}
+
+/// What a line adds to the text of its instruction.
+fn part_of(escape: Escape, line: &str) -> &str
+    ensures { result.now ≡ part_of escape line.now }
+{
+    if is_skipped(line) {
+        return "";
+    }
+    match continued_part(escape, line) {
+        Some(part) => part,
+        None => line,
+    }
+}
+
+/// The text of the instruction of these lines.
+pub(crate) fn joined(alloc: Global, escape: Escape, own: &[&str]) -> Result<String, Memory>
+    ensures { IfOk result (λ text. string_bytes text ≡ joined escape (map (λ line. line.now) own.now)) }
+{
+    let mut text = String::new(alloc);
+    for line in own {
+        text.push_str(part_of(escape, *line))?;
+    }
+    Ok(text)
 }

@@ -5,3 +5,4 @@ pub mod Showing
 pub mod Subject
 pub mod Table
 pub mod Unseen
+pub mod WordCause

@@ -5,7 +5,8 @@
 // that is refused may spell none.
 //
 // The central definitions are the table in specs/Table.antt, which has one sentence and one remedy for each code and instruction, `message_of` in
-// specs/Message.antt, `cause_message` in specs/Failing.antt, with a table of causes, the forms in specs/Showing.antt, and `json_line` in specs/Json.antt.
+// specs/Message.antt, `word_message` in specs/WordCause.antt, which has a sentence and a remedy for each way in which a word of a line is wrong,
+// `cause_message` in specs/Failing.antt, with a table of causes, the forms in specs/Showing.antt, and `json_line` in specs/Json.antt.
 // Of a COPY that misses a source `missing_message` names it, and `left_out_message` the line of the ignore file that leaves it out.
 //
 // ```
@@ -24,6 +25,7 @@ mod showing;
 mod subject;
 mod table;
 mod unseen;
+mod word_cause;
 
 pub use failing::{cause_message, left_out_message, missing_message};
 pub use json::{json_line, place_line};
@@ -32,3 +34,4 @@ pub use showing::{headed, noted, numbered, placed};
 pub use subject::Subject;
 pub use table::{remedy, sentence, wrong_with};
 pub use unseen::{has_unseen, is_unseen};
+pub use word_cause::{WordCause, word_message};
