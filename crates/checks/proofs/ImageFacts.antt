@@ -91,8 +91,8 @@ shown-same : (file : List ℕ) (form : Form) (target : Option (List ℕ)) (image
     → shown_fault file form target images lines fault ≡ shown_fault file form target others lines fault
 shown-same file form target images others lines fault h =
     let own = own_in fault.reason lines fault.line in
-    ap (λ (message : Message). shown_told file form fault own message (marked_by fault.reason (spot_by fault.reason own)))
-    (message-same target images others lines own fault.reason fault.line (word_in (spot_by fault.reason own)) h)
+    ap (λ (message : Message). shown_told file form fault own message (marked_by fault.reason (spot_by fault.reason lines own fault.line)))
+    (message-same target images others lines own fault.reason fault.line (word_in (spot_by fault.reason lines own fault.line)) h)
 
 neither : (a b : Bool) → a || b ≡ false → (a ≡ false) × (b ≡ false)
 neither true b h = absurd (true≢false h)

@@ -8,8 +8,10 @@ use Rattle.plain.specs.declared.refusal.Code.TheVariants.{R17}
 use Rattle.expand.specs.declared.reason.Reason.{Reason}
 use Rattle.expand.specs.declared.reason.Reason.TheVariants.{Coded, Required}
 use Rattle.meant.specs.Mounts.{faulty_item}
+use Rattle.meant.specs.WordFaults.{word_fault}
 use Rattle.meant.specs.declared.mounts.FaultyItem.{FaultyItem}
-use Rattle.pointed.specs.Pointing.{are_flags_alone, pointed, pointed_later}
+use Rattle.meant.specs.declared.word_faults.FaultyWord.{FaultyWord}
+use Rattle.pointed.specs.Pointing.{are_flags_alone, pointed, pointed_later, spotted}
 use Rattle.pointed.specs.Spot.{Spot, spot}
 use Rattle.pointed.specs.declared.spot.Pointed as lent
 use Rattle.sentences.specs.Subject.{subject_of}
@@ -59,10 +61,25 @@ abbrev pub spot_in : Code → List (List ℕ) → Option PlacedSpot
 spot_in code [] = None
 spot_in code (line ∷ later) = option_or (option_map (λ it. (0, it)) (pointed code line)) (later_by code line later)
 
--- the word of an instruction of these lines that a refusal for this reason is about, if they tell it: by R21 they don't
-abbrev pub spot_by : Reason → List (List ℕ) → Option PlacedSpot
-spot_by (Coded code) own = spot_in code own
-spot_by (Required text) own = None
+-- the first of some lines that has this word, by how many stand above it, with where the word stands in it
+abbrev pub spotted_in : ℕ → List ℕ → List (List ℕ) → Option PlacedSpot
+spotted_in above word [] = None
+spotted_in above word (line ∷ lines) = option_or (option_map (λ it. (above, it)) (spotted word line)) (spotted_in (above + 1) word lines)
+
+-- the same of a word with something wrong
+abbrev pub faulty_spot : Option FaultyWord → List (List ℕ) → Option PlacedSpot
+faulty_spot None own = None
+faulty_spot (Some found) own = spotted_in 0 found.word own
+
+-- the word that the lines of an instruction tell by themselves; by R21 they don't
+abbrev pub told_spot : Reason → List (List ℕ) → Option PlacedSpot
+told_spot (Coded code) own = spot_in code own
+told_spot (Required text) own = None
+
+-- the word that a refusal for this reason is about, of an instruction of the lines `own` of a file of these lines, of which the first has this number: the
+-- one that they tell, else the one that is wrong
+abbrev pub spot_by : Reason → List (List ℕ) → List (List ℕ) → ℕ → Option PlacedSpot
+spot_by reason lines own number = option_or (told_spot reason own) (faulty_spot (word_fault lines own reason number) own)
 
 -- a word with where it stands
 abbrev pub marked_whole : PlacedSpot → Marked

@@ -65,11 +65,11 @@ shown_told file Json fault own message marked = shown_json (place_of file fault.
 
 -- what is said of a fault of a build of this target with these images, in a file of these lines, of which these are its own
 abbrev pub message_in : Option (List ℕ) → List (List ℕ) → List (List ℕ) → List (List ℕ) → Rejection → Message
-message_in target images lines own fault = message_by target images None lines own fault.reason fault.line (word_in (spot_by fault.reason own))
+message_in target images lines own fault = message_by target images None lines own fault.reason fault.line (word_in (spot_by fault.reason lines own fault.line))
 
 abbrev pub shown_own : List ℕ → Form → Option (List ℕ) → List (List ℕ) → List (List ℕ) → List (List ℕ) → Rejection → List ℕ
 shown_own file form target images lines own fault =
-    shown_told file form fault own (message_in target images lines own fault) (marked_by fault.reason (spot_by fault.reason own))
+    shown_told file form fault own (message_in target images lines own fault) (marked_by fault.reason (spot_by fault.reason lines own fault.line))
 
 -- what is shown of a fault of a build of this target with these images, in a text with these lines
 abbrev pub shown_fault : List ℕ → Form → Option (List ℕ) → List (List ℕ) → List (List ℕ) → Rejection → List ℕ

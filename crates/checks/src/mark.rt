@@ -2,15 +2,16 @@
 ghost use Rattle.std.specs.Prelude.{◌≡◌, ◌++◌, chars, map, option_map, IfOk, OnOk};
 ghost use Rattle.std.specs.List.{flat_map};
 ghost use Rattle.std.specs.String.{string_bytes};
+ghost use Rattle.meant.specs.WordFaults.{word_fault};
 ghost use Rattle.pointed.specs.Spot.{spot as spot_of};
-ghost use Rattle.checks.specs.Mark.{blank_under, caret_under, mark_under, placed_spot, later_spot, later_by, spot_in, spot_by, marked_whole, marked_item, marked_by};
+ghost use Rattle.checks.specs.Mark.{blank_under, caret_under, mark_under, placed_spot, later_spot, later_by, spot_in, spotted_in, faulty_spot, told_spot, spot_by, marked_whole, marked_item, marked_by};
 
 use crate::visible::visible;
 use ascii::first_piece;
 use expand::Reason;
-use meant::faulty_item;
+use meant::{faulty_item, word_fault};
 use plain::{Code, Memory, Text};
-use pointed::{Pointed, are_flags_alone, pointed, pointed_later};
+use pointed::{Pointed, are_flags_alone, pointed, pointed_later, spotted};
 use sentences::Subject;
 use std::alloc::{AllocError, Global};
 
@@ -132,17 +133,68 @@ fn spot_in<'a>(
     }
 }
 
-/// The word of an instruction of these lines that a refusal for this reason is about, if they tell it.
-pub(crate) fn spot_by<'a>(
+/// The first line of an instruction that has this word, by how many stand above it, with where the word stands in it.
+fn spotted_in<'a>(
+    alloc: Global,
+    own: &[&'a str],
+    word: &str,
+) -> Result<Option<(usize, Pointed<'a>)>, Memory>
+    ensures { IfOk result (λ found. option_map placed_spot found ≡ spotted_in 0 word.now (map (λ line. line.now) own.now)) }
+{
+    let mut above = 0;
+    for line in own {
+        if let Some(found) = spotted(alloc, *line, word)? {
+            return Ok(Some((above, found)));
+        }
+        above += 1;
+    }
+    Ok(None)
+}
+
+/// The word of an instruction that is wrong for this reason, by all lines of its file.
+fn faulty_spot<'a>(
+    alloc: Global,
+    reason: &Reason,
+    lines: &[&str],
+    own: &[&'a str],
+    number: u32,
+) -> Result<Option<(usize, Pointed<'a>)>, Memory>
+    ensures { IfOk result (λ found. option_map placed_spot found ≡ faulty_spot (word_fault (map (λ line. line.now) lines.now) (map (λ line. line.now) own.now) reason.now number) (map (λ line. line.now) own.now)) }
+{
+    match word_fault(alloc, lines, own, reason, number)? {
+        Some(found) => spotted_in(alloc, own, found.word.as_str()),
+        None => Ok(None),
+    }
+}
+
+/// The word that its first lines tell.
+fn told_spot<'a>(
     alloc: Global,
     reason: &Reason,
     own: &[&'a str],
 ) -> Result<Option<(usize, Pointed<'a>)>, Memory>
-    ensures { IfOk result (λ found. option_map placed_spot found ≡ spot_by reason.now (map (λ line. line.now) own.now)) }
+    ensures { IfOk result (λ found. option_map placed_spot found ≡ told_spot reason.now (map (λ line. line.now) own.now)) }
 {
     match reason {
         Reason::Coded(code) => spot_in(alloc, *code, own),
         Reason::Required(_) => Ok(None),
+    }
+}
+
+/// The word of an instruction that a refusal for this reason is about, if its lines tell it. They are `own`, among these lines of its file, and the first of
+/// them has this number.
+pub(crate) fn spot_by<'a>(
+    alloc: Global,
+    reason: &Reason,
+    lines: &[&str],
+    own: &[&'a str],
+    number: u32,
+) -> Result<Option<(usize, Pointed<'a>)>, Memory>
+    ensures { IfOk result (λ found. option_map placed_spot found ≡ spot_by reason.now (map (λ line. line.now) lines.now) (map (λ line. line.now) own.now) number) }
+{
+    match told_spot(alloc, reason, own)? {
+        Some(found) => Ok(Some(found)),
+        None => faulty_spot(alloc, reason, lines, own, number),
     }
 }
 

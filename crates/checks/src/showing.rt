@@ -196,7 +196,7 @@ fn shown_fault(
     ensures { IfOk result (λ text. string_bytes text ≡ shown_fault file.now form (option_copied target.entry) images.now (map (λ line. line.now) lines.now) fault.now) }
 {
     let own = own_in(alloc, &fault.reason, lines, fault.line)?;
-    let found = spot_by(alloc, &fault.reason, own.as_slice())?;
+    let found = spot_by(alloc, &fault.reason, lines, own.as_slice(), fault.line)?;
     let message = message_by(
         alloc,
         target,

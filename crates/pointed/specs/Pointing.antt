@@ -8,6 +8,7 @@ use Rattle.words.specs.Flag.{behind_flags, behind_pieces}
 use Rattle.sentences.specs.Subject.{subject_of}
 use Rattle.sentences.specs.declared.subject.Subject.{Subject}
 use Rattle.sentences.specs.declared.subject.Subject.TheVariants.{Run, Copy}
+use Rattle.pointed.specs.First.{first_that}
 use Rattle.pointed.specs.Flag.{flag_number}
 use Rattle.pointed.specs.Spot.{Spot, spot_at}
 use Rattle.pointed.specs.Word.{word_number}
@@ -50,3 +51,11 @@ tells_alone code = false
 -- the flag of a later line of an instruction that a refusal by this code is about, where all lines before it have the instruction's name and flags alone
 abbrev pub pointed_later : Code → Subject → List ℕ → Option Spot
 pointed_later code subject line = if not (tells_alone code) then None else option_and_then (λ number. spot_at line (behind_pieces number line)) (flag_number code subject line)
+
+-- the number of the first of some pieces that is this word
+abbrev pub number_of_word : List ℕ → List (List ℕ) → Option ℕ
+number_of_word word pieces = first_that (λ begun piece. bytes_eq piece word) pieces
+
+-- the first piece of a line that is this word
+abbrev pub spotted : List ℕ → List ℕ → Option Spot
+spotted word line = option_and_then (λ number. spot_at line (behind_pieces number line)) (number_of_word word (pieces line))

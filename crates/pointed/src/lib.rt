@@ -4,6 +4,8 @@
 // other lines. So it points at no word that may go on in the next line, and after a quote or an escape character at flags alone, which know neither. Where
 // several words may be the one, it points at none.
 //
+// Of a word that is known otherwise `spotted` says where it stands in a line.
+//
 // The central definition is `pointed` in specs/Pointing.antt: specs/Flag.antt says which flag it is, specs/Word.antt which other word, and specs/Spot.antt
 // where that stands.
 //
@@ -20,5 +22,5 @@ mod pointing;
 mod spot;
 mod word;
 
-pub use pointing::{are_flags_alone, pointed, pointed_later};
+pub use pointing::{are_flags_alone, pointed, pointed_later, spotted};
 pub use spot::Pointed;

@@ -1,7 +1,7 @@
-ghost use Rattle.std.specs.Prelude.{◌≡◌, option_map, option_and_then, IfOk};
+ghost use Rattle.std.specs.Prelude.{◌≡◌, bytes_eq, map, option_map, option_and_then, IfOk};
 ghost use Rattle.ascii.specs.Blanks.{after_blanks};
 ghost use Rattle.words.specs.Flag.{behind_pieces};
-ghost use Rattle.pointed.specs.Pointing.{is_of_flag, has_flags, number_of, spot_after, pointed, are_flags_alone, tells_alone, pointed_later};
+ghost use Rattle.pointed.specs.Pointing.{is_of_flag, has_flags, number_of, spot_after, pointed, are_flags_alone, tells_alone, pointed_later, number_of_word, spotted};
 ghost use Rattle.pointed.specs.Spot.{spot, spot_at};
 
 use crate::flag::flag_number;
@@ -137,6 +137,36 @@ pub fn pointed_later<'a>(
         return Ok(None);
     }
     match flag_number(alloc, code, subject, line)? {
+        Some(number) => Ok(later_spot(line, number)),
+        None => Ok(None),
+    }
+}
+
+/// Whether a piece is this word.
+fn is_word(word: &str, piece: &str) -> bool
+    ensures { result ≡ bytes_eq piece.now word.now }
+{
+    piece == word
+}
+
+/// The number of the first of some pieces that is this word.
+fn number_of_word(word: &str, pieces: &[&str]) -> Option<usize>
+    ensures { result ≡ number_of_word word.now (map (λ piece. piece.now) pieces.now) }
+{
+    for (index, piece) in pieces.iter().enumerate() {
+        if is_word(word, piece) {
+            return Some(index);
+        }
+    }
+    None
+}
+
+/// The first piece of a line that is this word; none if none is, or if it may go on in the next line.
+pub fn spotted<'a>(alloc: Global, line: &'a str, word: &str) -> Result<Option<Pointed<'a>>, Memory>
+    ensures { IfOk result (λ found. option_map spot found ≡ spotted word.now line.now) }
+{
+    let pieces = split_at_blanks(alloc, line)?;
+    match number_of_word(word, pieces.as_slice()) {
         Some(number) => Ok(later_spot(line, number)),
         None => Ok(None),
     }
