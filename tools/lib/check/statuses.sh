@@ -148,14 +148,18 @@ packed=$(sed -n 's/^example_folder_packed | dfsolve build | //p' "$here/crates/t
 row 'a packed folder' 0 "$packed" '' pack "$here/examples/folder"
 ln -s "$here/examples/folder" "$work/by_link"
 row 'a folder that is given by a link' 0 "$packed" '' pack "$work/by_link"
-row 'a folder without a Dockerfile' 2 '' 'no Dockerfile' pack "$here/docs"
-row 'no such folder' 2 '' 'no Dockerfile' pack "$work/missing"
+row 'a folder without a Dockerfile' 2 '' "no Dockerfile: $here/docs; --file names another" pack "$here/docs"
+row 'no such folder' 2 '' "no Dockerfile: $work/missing does not exist: name another folder" pack "$work/missing"
+row 'a file in place of a folder' 2 '' "no Dockerfile: $work/in is no folder: name one" pack "$work/in"
+mkdir "$work/contained"
+: >"$work/contained/Containerfile"
+row 'a folder with a Containerfile' 2 '' "no Dockerfile: $work/contained has a Containerfile; --file $work/contained/Containerfile takes it" pack "$work/contained"
 row 'pack without a folder' 2 '' '*' pack
 row 'two folders' 2 '' '*' pack "$work" "$work"
 row 'help of pack' 2 '*' '' pack --help
 mkdir "$work/far"
 ln -s "$here/examples/folder/Dockerfile" "$work/far/Dockerfile"
-row 'a Dockerfile that is a link' 2 '' 'no Dockerfile' pack "$work/far"
+row 'a Dockerfile that is a link' 2 '' "no Dockerfile: $work/far/Dockerfile is no plain file; --file names another" pack "$work/far"
 
 # what is given with options, and where the bundle goes
 given='{"args":{"v":"1=2"},'${packed#\{}
@@ -163,7 +167,7 @@ row 'a packed folder with a target and a build argument' 0 "${given%\}},\"target
 row 'a build argument without a sign of equality' 2 '' '*' pack "$here/examples/folder" --build-arg v
 row 'a Dockerfile that is named' 0 "$packed" '' pack "$here/examples/folder" --file "$here/examples/folder/Dockerfile"
 row 'a Dockerfile that is named by a link' 0 "$packed" '' pack "$here/examples/folder" --file "$work/far/Dockerfile"
-row 'a Dockerfile that is named and missing' 2 '' 'no Dockerfile' pack "$here/examples/folder" --file "$work/missing"
+row 'a Dockerfile that is named and missing' 2 '' "no Dockerfile: $work/missing does not exist, or is a link that leads to nothing: name what exists" pack "$here/examples/folder" --file "$work/missing"
 image='{"config":'$config',"tree":['$file']}'
 printf '%s' "$image" >"$work/image.json"
 printf '%s' "$config" >"$work/config.json"
@@ -188,6 +192,33 @@ cp "$work/bundle" "$work/out"
 judge 'a bundle in a file'
 row 'a bundle for a file that cannot be made' 3 '' "device failed: $work/missing/bundle.part lies in a folder that does not exist: make that folder" pack "$here/examples/folder" --output "$work/missing/bundle"
 row 'a bundle for a folder' 3 '' "device failed: $work/far is a folder: name a file" pack "$here/examples/folder" --output "$work/far"
+row 'a bundle over a file' 0 '' '' pack "$here/examples/folder" --output "$work/kept"
+want=0 out="$packed" err='' status=0
+cp "$work/kept" "$work/out"
+judge 'a bundle in place of a file'
+printf 'old' >"$work/old"
+ln -s old "$work/link"
+row 'a bundle through a link' 0 '' '' pack "$here/examples/folder" --output "$work/link"
+cp "$work/old" "$work/out"
+judge 'a bundle where a link leads'
+if [ ! -L "$work/link" ]; then
+    echo 'a bundle was put in place of a link' >&2
+    exit 1
+fi
+printf 'old' >"$work/old"
+: >"$work/old.part"
+row 'a bundle beside the part of another' 3 '' "device failed: $work/old.part is there already: remove it" pack "$here/examples/folder" --output "$work/old"
+rm "$work/old.part"
+want=3 out='' err="device failed: $work/old.part cannot be written: see whether there is room for it" status=0
+(trap '' XFSZ && ulimit -f 0 && exec "$program" pack "$here/examples/folder" --output "$work/old") >"$work/out" 2>"$work/err" || status=$?
+judge 'a bundle that is larger than a file may be'
+if [ "$(cat "$work/old")" != old ] || [ -e "$work/old.part" ]; then
+    echo 'a bundle that was not written changed a file, or leaves a part' >&2
+    exit 1
+fi
+if [ -c /dev/full ]; then
+    row 'a bundle for a full device' 3 '' 'device failed: /dev/full cannot be written: see whether there is room for it' pack "$here/examples/folder" --output /dev/full
+fi
 if [ -e "$work/far.part" ] || [ -e "$work/bundle.part" ]; then
     echo 'a bundle that was not written leaves a file' >&2
     exit 1
@@ -201,13 +232,14 @@ folder() {
 
 folder linked
 ln -s Dockerfile "$work/linked/link"
-row 'a link in a folder' 3 '' 'cannot pack' pack "$work/linked"
+kept='leave it out by a line of .dockerignore and --apply-ignore, or'
+row 'a link in a folder' 3 '' "cannot pack: $work/linked/link is a link: $kept put what it leads to in its place" pack "$work/linked"
 folder piped
 mkfifo "$work/piped/pipe"
-row 'a pipe in a folder' 3 '' 'cannot pack' pack "$work/piped"
+row 'a pipe in a folder' 3 '' "cannot pack: $work/piped/pipe is neither a file nor a folder: $kept remove it" pack "$work/piped"
 folder named
 : >"$work/named/"$'\xff'
-row 'a name that is no UTF-8' 3 '' 'cannot pack' pack "$work/named"
+row 'a name that is no UTF-8' 3 '' "cannot pack: $work/named/ holds an entry whose name is not UTF-8 or is too long: rename that entry" pack "$work/named"
 folder deep
 far=$(printf '/d%.0s' $(seq 64))
 mkdir -p "$work/deep$far"
@@ -216,7 +248,7 @@ status=0
 out='*' err='' want=0
 judge 'a folder of 64 components'
 mkdir "$work/deep$far/e"
-row 'a folder of 65 components' 3 '' 'cannot pack' pack "$work/deep"
+row 'a folder of 65 components' 3 '' "cannot pack: $work/deep$far/e lies deeper than 64 components, or has too long a name: move or rename it" pack "$work/deep"
 
 # what is left out isn't looked at beyond its name, or, where a line may be an exception, beyond what it is
 folder ignoring
@@ -227,23 +259,21 @@ row 'a link in a folder that is left out' 0 '*' '' pack "$work/ignoring" --apply
 printf 'n\n!n/k\n' >"$work/ignoring/.dockerignore"
 row 'a link in a folder that may hold an exception' 0 '*' '' pack "$work/ignoring" --apply-ignore
 printf '!n/link\n' >"$work/ignoring/.dockerignore"
-row 'a link that is kept' 3 '' "cannot pack: $work/ignoring/n/link is a link: remove it, or put what it leads to in its place" pack "$work/ignoring" --apply-ignore
+row 'a link that is kept' 3 '' "cannot pack: $work/ignoring/n/link is a link: leave it out by a line of the ignore file, or put what it leads to in its place" pack "$work/ignoring" --apply-ignore
 
-# with an option what can't be packed is named
-row 'a link in a folder, named' 3 '' "cannot pack: $work/linked/link is a link: remove it, or put what it leads to in its place" pack "$work/linked" --target s
-row 'a pipe in a folder, named' 3 '' "cannot pack: $work/piped/pipe is neither a file nor a folder: remove it" pack "$work/piped" --target s
-row 'a name that is no UTF-8, named' 3 '' "cannot pack: $work/named/ has a name that is not UTF-8 or is too long: rename it" pack "$work/named" --build-arg v=1
-row 'a folder of 65 components, named' 3 '' "cannot pack: $work/deep$far/e lies deeper than 64 components, or has too long a name: move or rename it" pack "$work/deep" --output "$work/none"
 if [ "$(id -u)" != 0 ]; then
     folder secret
     : >"$work/secret/file"
     chmod 0 "$work/secret/file"
     folder shut
     chmod 0 "$work/shut"
-    row 'a folder that may not be looked into' 3 '' 'cannot pack' pack "$work/shut"
+    row 'a folder that may not be looked into' 3 '' "cannot pack: $work/shut/Dockerfile cannot be read: make it readable, or leave it out" pack "$work/shut"
     chmod 755 "$work/shut"
     row 'a bundle that may not be read' 3 '' "device failed: $work/secret/file may not be read" build "$work/secret/file"
-    row 'a file that cannot be read, named' 3 '' "cannot pack: $work/secret/file cannot be read: make it readable, or leave it out" pack "$work/secret" --target s
+    row 'a file that cannot be read' 3 '' "cannot pack: $work/secret/file cannot be read: make it readable, or leave it out" pack "$work/secret"
+    printf 'file\n' >"$work/secret/.dockerignore"
+    row 'a file that cannot be read and is left out' 0 '*' '' pack "$work/secret" --apply-ignore
+    rm "$work/secret/.dockerignore"
     row 'a file that cannot be read, by names alone' 0 '*' '' pack "$work/secret" --names
 fi
 
