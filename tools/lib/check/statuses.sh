@@ -199,6 +199,7 @@ judge 'a bundle in place of a file'
 printf 'old' >"$work/old"
 ln -s old "$work/link"
 row 'a bundle through a link' 0 '' '' pack "$here/examples/folder" --output "$work/link"
+want=0 out="$packed" err='' status=0
 cp "$work/old" "$work/out"
 judge 'a bundle where a link leads'
 if [ ! -L "$work/link" ]; then
