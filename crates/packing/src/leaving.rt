@@ -98,7 +98,7 @@ impl Leaving {
     }
 
     /// Whether a path is that of the ignore file, or of the bundle's Dockerfile.
-    fn is_own(&self, path: &Path) -> bool
+    pub(crate) fn is_own(&self, path: &Path) -> bool
         ensures { result ≡ is_own self.now.dockerfile path.now }
     {
         match path.components() {

@@ -221,7 +221,8 @@ fn add_row<R: Files + AllocGlobal>(
     }
 }
 
-/// Passes over what is neither a file nor a directory, or refuses it.
+/// Passes over what is neither a file nor a directory, or refuses it. A link in place of the ignore file or of the bundle's Dockerfile is always
+/// refused, since what it leads to isn't in the folder.
 fn pass_over(
     alloc: Global,
     place: &str,
@@ -234,7 +235,7 @@ fn pass_over(
     requires { IsPacked leaving.now path.now }
     ensures { TakesAs leaving.now path.now OtherKind result found.old found.new }
 {
-    if !leaving.passes() {
+    if leaving.is_own(path) || !leaving.passes() {
         return Err(refuse(alloc, notes, place, leaving.words(is_link)));
     }
     found.pass_over(place)?;
