@@ -19,9 +19,10 @@ use Rattle.clap.specs.declared.error.kind.ErrorKind.TheVariants.{ValueValidation
 use Rattle.clap.proofs.ValueTestLemmas.{accepts-Accepts}
 use Rattle.plain.specs.Limits.{most_workers}
 use Rattle.command.specs.CommandLine.{least_workers, whole_command}
-use Rattle.command.specs.Tasks.{IsTaskOf, IsWorkers, argument_faults, arguments_of, bundle_file, check_of, faults_of, graph_of, has_bare_argument, has_wrong_choice, images_of, pack_by, pack_of, pack_with, why_of}
+use Rattle.command.specs.Sources.{choice_of, source_of}
+use Rattle.command.specs.Tasks.{IsTaskOf, IsWorkers, argument_faults, check_with, faults_of, graph_with, is_whole, pack_by, pack_of, pack_with, why_with}
 use Rattle.command.specs.Llb.{llb_of}
-use Rattle.command.specs.declared.task.LlbOptions.{LlbOptions}
+use Rattle.command.specs.declared.task.Choice.{Choice}
 use Rattle.command.specs.declared.task.PackOptions.{PackOptions}
 use Rattle.command.specs.declared.task.Task.{Task}
 use Rattle.command.specs.declared.task.Task.TheVariants.{Build, Graph, Pack, Why, Llb, Config, Check, Explain}
@@ -69,33 +70,36 @@ workers_of rows has =
       },
     )
 
--- a fault of build arguments is the one, or there is none
+-- a fault of the arguments is the one, or there is none
 one_fault : (found : Option (Text × List Row)) → (argument_faults found ≡ [] → ⊥) → argument_faults found ≡ ValueValidation ∷ []
 one_fault None some = absurd (some refl)
-one_fault (Some found) some = go (has_bare_argument found || has_wrong_choice found) some
+one_fault (Some found) some = go (is_whole found) some
   where
-    go : (b : Bool) → (cond b (ValueValidation ∷ []) [] ≡ [] → ⊥) → cond b (ValueValidation ∷ []) [] ≡ ValueValidation ∷ []
-    go true some = refl
-    go false some = absurd (some refl)
+    go : (b : Bool) → (cond b [] (ValueValidation ∷ []) ≡ [] → ⊥) → cond b [] (ValueValidation ∷ []) ≡ ValueValidation ∷ []
+    go true some = absurd (some refl)
+    go false some = refl
+
+-- what is made of something is made where that is there
+made_whole : {A B : Type 0} (found : Option A) (made : A → B) (x : B) → option_map made found ≡ Some x → cond (is_some found) [] (ValueValidation ∷ []) ≡ []
+made_whole None made x is = cc
+made_whole (Some a) made x is = refl
 
 -- there is none where there is a task
 task_args : (found : Option (Text × List Row)) (task : Task) → IsTaskOf found task → argument_faults found ≡ []
 task_args None task asked = absurd asked
-task_args (Some found) (Build n) asked = rw asked.0 refl
-task_args (Some found) (Graph options) asked = rw asked.0 refl
-task_args (Some found) (Pack words) asked = rw asked.0 (go (first_of (codes "DIR") found.1) (arguments_of found.1) (images_of found.1) asked.1)
+task_args (Some found) (Build options) asked = rw (asked.0, asked.1.source) refl
+task_args (Some found) (Graph options) asked = rw asked.0 (made_whole (source_of (codes "FILE") found.1) (graph_with found.1) options asked.1)
+task_args (Some found) (Pack options) asked = rw asked.0 (go (first_of (codes "DIR") found.1) (choice_of found.1) asked.1)
   where
-    go : (folder : Option Text) (args images : Option (List (Text × Text))) → pack_by found.1 folder args images ≡ Some words
-        → cond ((not (is_some args) || not (is_some images)) || false) (ValueValidation ∷ []) [] ≡ []
-    go None args images is = cc
-    go (Some folder) None images is = cc
-    go (Some folder) (Some args) None is = cc
-    go (Some folder) (Some args) (Some images) is = refl
-task_args (Some found) (Why options) asked = rw asked.0 refl
+    go : (folder : Option Text) (choice : Option Choice) → pack_by found.1 folder choice ≡ Some options
+        → cond (is_some choice) [] (ValueValidation ∷ []) ≡ []
+    go None choice is = cc
+    go (Some folder) choice is = made_whole choice (pack_with found.1 folder) options is
+task_args (Some found) (Why options) asked = rw asked.0 (made_whole (source_of (codes "bundle") found.1) (why_with found.1) options asked.1)
 task_args (Some found) (Llb options) asked = rw (asked.0, asked.1) refl
-task_args (Some found) (Config file) asked = rw asked.0 refl
-task_args (Some found) (Check options) asked = rw asked.0 refl
-task_args (Some found) (Explain file) asked = rw asked.0 refl
+task_args (Some found) (Config source) asked = rw (asked.0, asked.1) refl
+task_args (Some found) (Check options) asked = rw asked.0 (made_whole (source_of (codes "FILE") found.1) (check_with found.1) options asked.1)
+task_args (Some found) (Explain source) asked = rw (asked.0, asked.1) refl
 
 -- the other commands as clap builds them
 abbrev graph_leaf : Shape
@@ -128,24 +132,17 @@ abbrev leads : Bool → Bool → Bool → Bool → Bool → Bool → Bool → Bo
 leads x y p w l c k e z =
     cond x (Some leaf) (cond y (Some graph_leaf) (cond p (Some pack_leaf) (cond w (Some why_leaf) (cond l (Some llb_leaf) (cond c (Some config_leaf) (cond k (Some check_leaf) (cond e (Some explain_leaf) (cond z (Some help_leaf) None))))))))
 
--- `pack` has a folder, and each build argument and each image a `=`
-pack_at : (rows : List Row) (folder : Text) → first_of (codes "DIR") rows ≡ Some folder → argument_faults (Some (codes "pack", rows)) ≡ []
-    → (words : PackOptions) × (pack_of rows ≡ Some words)
-pack_at rows folder given e = go (arguments_of rows) (images_of rows) refl refl
-  where
-    go : (args images : Option (List (Text × Text))) → arguments_of rows ≡ args → images_of rows ≡ images
-        → (words : PackOptions) × (pack_of rows ≡ Some words)
-    go None images is also = absurd (some_kind _ _ (rw is at e))
-    go (Some args) None is also = absurd (some_kind _ _ (rw (is, also) at e))
-    go (Some args) (Some images) is also = (pack_with rows folder args images, rw (given, is, also) refl)
+-- what has to be there is
+there : {A : Type 0} (found : Option A) → cond (is_some found) [] (ValueValidation ∷ []) ≡ [] → (x : A) × (found ≡ Some x)
+there None e = absurd (some_kind _ _ e)
+there (Some x) e = (x, refl)
 
--- `llb` has all that it is asked for
-llb_at : (rows : List Row) → argument_faults (Some (codes "llb", rows)) ≡ [] → (options : LlbOptions) × (llb_of rows ≡ Some options)
-llb_at rows e = go (llb_of rows) refl
-  where
-    go : (found : Option LlbOptions) → llb_of rows ≡ found → (options : LlbOptions) × (llb_of rows ≡ Some options)
-    go None is = absurd (some_kind _ _ (rw is at e))
-    go (Some options) is = (options, is)
+-- `pack` has a folder, and each build argument and each image a `=`
+pack_at : (rows : List Row) (folder : Text) → first_of (codes "DIR") rows ≡ Some folder → cond (is_some (choice_of rows)) [] (ValueValidation ∷ []) ≡ []
+    → (options : PackOptions) × (pack_of rows ≡ Some options)
+pack_at rows folder given e =
+    let choice = there (choice_of rows) e in
+    (pack_with rows folder choice.0, ap (λ (found : Option Text). pack_by rows found (choice_of rows)) given ∙ ap (λ (found : Option Choice). pack_by rows (Some folder) found) choice.1)
 
 met_at : (p : Text × List Text) (x y k w l c h v z : Bool) → answers_to p.0 (label_of help_leaf) ≡ z → NotHelp (Some p)
     → is_some (option_map (λ s. rows_at s p.1) (leads x y k w l c h v z)) ≡ true
@@ -154,19 +151,33 @@ met_at : (p : Text × List Text) (x y k w l c h v z : Bool) → answers_to p.0 (
     → (task : Task) × IsTaskOf (option_map (λ s. rows_at s p.1) (leads x y k w l c h v z)) task
 met_at p true y k w l c h v z help not_help some e args =
     let found = workers_of _ (leaf_ok p.1 e) in
-    (Build (record { workers = found.0; file = bundle_file (rows_at leaf p.1).1 }), (refl, record { workers = found.1; file = refl }))
-met_at p false true k w l c h v z help not_help some e args = (Graph (graph_of (rows_at graph_leaf p.1).1), (refl, refl))
+    let source = there (source_of (codes "FILE") (rows_at leaf p.1).1) args in
+    (Build (record { workers = found.0; source = source.0 }), (refl, record { workers = found.1; source = source.1 }))
+met_at p false true k w l c h v z help not_help some e args =
+    let rows = (rows_at graph_leaf p.1).1 in
+    let source = there (source_of (codes "FILE") rows) args in
+    (Graph (graph_with rows source.0), (refl, ap (option_map (graph_with rows)) source.1))
 met_at p false false true w l c h v z help not_help some e args =
     let folder = folder_ok p.1 e in
     let found = pack_at (finished pack_leaf.rules (walk pack_leaf.rules [] nothing_held p.1).held) folder.0 folder.1 args in
     (Pack found.0, (refl, found.1))
-met_at p false false false true l c h v z help not_help some e args = (Why (why_of (rows_at why_leaf p.1).1), (refl, refl))
+met_at p false false false true l c h v z help not_help some e args =
+    let rows = (rows_at why_leaf p.1).1 in
+    let source = there (source_of (codes "bundle") rows) args in
+    (Why (why_with rows source.0), (refl, ap (option_map (why_with rows)) source.1))
 met_at p false false false false true c h v z help not_help some e args =
-    let found = llb_at (finished llb_leaf.rules (walk llb_leaf.rules [] nothing_held p.1).held) args in
+    let found = there (llb_of (rows_at llb_leaf p.1).1) args in
     (Llb found.0, (refl, found.1))
-met_at p false false false false false true h v z help not_help some e args = (Config (bundle_file (rows_at config_leaf p.1).1), (refl, refl))
-met_at p false false false false false false true v z help not_help some e args = (Check (check_of (rows_at check_leaf p.1).1), (refl, refl))
-met_at p false false false false false false false true z help not_help some e args = (Explain (bundle_file (rows_at explain_leaf p.1).1), (refl, refl))
+met_at p false false false false false true h v z help not_help some e args =
+    let source = there (source_of (codes "FILE") (rows_at config_leaf p.1).1) args in
+    (Config source.0, (refl, source.1))
+met_at p false false false false false false true v z help not_help some e args =
+    let rows = (rows_at check_leaf p.1).1 in
+    let source = there (source_of (codes "FILE") rows) args in
+    (Check (check_with rows source.0), (refl, ap (option_map (check_with rows)) source.1))
+met_at p false false false false false false false true z help not_help some e args =
+    let source = there (source_of (codes "FILE") (rows_at explain_leaf p.1).1) args in
+    (Explain source.0, (refl, source.1))
 met_at p false false false false false false false false true help not_help some e args =
     let same = (bytes_eq-Decides (codes "help") p.0).0 (or_false _ help) in
     absurd (true≢false (sym ((bytes_eq-Decides p.0 (codes "help")).1 (sym same)) ∙ not_help))

@@ -9,7 +9,8 @@ use Rattle.clap.specs.declared.parser.matches.SubCommand.{SubCommand}
 use Rattle.plain.specs.Limits.{most_workers}
 use Rattle.command.specs.CommandLine.{least_workers}
 use Rattle.command.specs.PrivateTasks.{IsAnswer}
-use Rattle.command.specs.Tasks.{IsTaskOf, IsWorkers}
+use Rattle.command.specs.Tasks.{IsBuild, IsTaskOf, IsWorkers}
+use Rattle.command.specs.declared.task.BuildOptions.{BuildOptions}
 use Rattle.command.specs.declared.task.Task.{Task}
 use Rattle.command.specs.declared.task.Task.TheVariants.{Build, Graph, Pack, Why, Llb, Config, Check, Explain}
 
@@ -51,9 +52,9 @@ read_out E G only rows one w is value out n h =
     let same : n ≡ w = h.is ∙ sym parsed.1 in
     out (subst (λ k. least_workers ≤ k) same h.least) (subst (λ k. k ≤ most_workers) same h.most)
 
--- without a number of workers `build` asks for no task
-pub no_build : (rows : List Row) → ((workers : ℕ) → IsWorkers rows workers → ⊥) → (task : Task) → IsTaskOf (Some (codes "build", rows)) task → ⊥
-no_build rows none (Build options) h = none options.workers h.1.workers
+-- where `build` can be asked for nothing, it asks for no task
+pub no_build : (rows : List Row) → ((options : BuildOptions) → IsBuild rows options → ⊥) → (task : Task) → IsTaskOf (Some (codes "build", rows)) task → ⊥
+no_build rows none (Build options) h = none options h.1
 no_build rows none (Graph options) h = absurd (true≢false (ap (λ t. bytes_eq t (codes "build")) h.0))
 no_build rows none (Pack options) h = absurd (true≢false (ap (λ t. bytes_eq t (codes "build")) h.0))
 no_build rows none (Why options) h = absurd (true≢false (ap (λ t. bytes_eq t (codes "build")) h.0))

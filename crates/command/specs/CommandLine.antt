@@ -23,49 +23,49 @@ workers_option = record (new_rule (codes "workers")) {
   defaults = default_workers ∷ [];
 }
 
--- FILE, which may be left out (own)
-abbrev pub bundle_argument : Rule
-bundle_argument = new_rule (codes "FILE")
-
--- `build [--workers N] [FILE]` (own)
-abbrev pub build_command : App
-build_command = with_rule (with_rule (new_app (codes "build")) workers_option) bundle_argument
+-- an option that takes a text, as `--target T` (own)
+abbrev pub text_option : Text → Rule
+text_option name = record (new_rule name) { long = Some name; value_names = 1 }
 
 -- a flag, as `--dot` (own)
 abbrev pub flag : Text → Rule
 flag name = record (new_rule name) { long = Some name; action = Some SetTrue }
 
--- `graph [--dot] [FILE]` (own)
-abbrev pub graph_command : App
-graph_command = with_rule (with_rule (new_app (codes "graph")) (flag (codes "dot"))) bundle_argument
-
--- DIR, which has to be given (own)
-abbrev pub folder_argument : Rule
-folder_argument = record (new_rule (codes "DIR")) { required = true }
-
--- an option that takes a text, as `--target T` (own)
-abbrev pub text_option : Text → Rule
-text_option name = record (new_rule name) { long = Some name; value_names = 1 }
-
 -- `--build-arg N=V`, any number of times (own)
 abbrev pub argument_option : Rule
 argument_option = record (text_option (codes "build-arg")) { action = Some Append }
-
--- `pack DIR [--file F] [--target T]` (own)
-abbrev pub pack_from : App
-pack_from = with_rule (with_rule (with_rule (new_app (codes "pack")) folder_argument) (text_option (codes "file"))) (text_option (codes "target"))
 
 -- `--image NAME=FILE`, any number of times (own)
 abbrev pub image_option : Rule
 image_option = record (text_option (codes "image")) { action = Some Append }
 
--- `pack DIR [--file F] [--target T] [--build-arg N=V].. [--image NAME=FILE]..` (own)
-abbrev pub pack_with : App
-pack_with = with_rule (with_rule pack_from argument_option) image_option
+-- the options that choose what the bundle of a folder has: `[--file F] [--target T] [--build-arg N=V].. [--image NAME=FILE]..` (own)
+abbrev pub with_choice : App → App
+with_choice app = with_rule (with_rule (with_rule (with_rule app (text_option (codes "file"))) (text_option (codes "target"))) argument_option) image_option
 
--- the same with `--output FILE` (own)
+-- FILE or DIR, which may be left out (own)
+abbrev pub bundle_argument : Rule
+bundle_argument = record (new_rule (codes "FILE")) { value_names = 1 }
+
+-- what a bundle is taken from: these options and `[FILE|DIR]` (own)
+abbrev pub with_source : App → App
+with_source app = with_rule (with_choice app) bundle_argument
+
+-- `build [--workers N] [FILE|DIR]` with the options of a folder (own)
+abbrev pub build_command : App
+build_command = with_source (with_rule (new_app (codes "build")) workers_option)
+
+-- `graph [--dot] [FILE|DIR]` with the options of a folder (own)
+abbrev pub graph_command : App
+graph_command = with_source (with_rule (new_app (codes "graph")) (flag (codes "dot")))
+
+-- DIR, which has to be given (own)
+abbrev pub folder_argument : Rule
+folder_argument = record (new_rule (codes "DIR")) { required = true }
+
+-- `pack DIR [--output FILE]` with the options of a folder (own)
 abbrev pub pack_to : App
-pack_to = with_rule pack_with (text_option (codes "output"))
+pack_to = with_rule (with_choice (with_rule (new_app (codes "pack")) folder_argument)) (text_option (codes "output"))
 
 -- the same with `--apply-ignore` and `--names` (own)
 abbrev pub pack_command : App
@@ -83,9 +83,9 @@ bundle_command = with_subcommand (with_subcommand bare_command build_command.top
 abbrev pub paths_argument : Rule
 paths_argument = record (new_rule (codes "PATH")) { required = true; action = Some Append }
 
--- `why [--bundle FILE] PATH..` (own)
+-- `why [--bundle FILE|DIR] PATH..` with the options of a folder (own)
 abbrev pub why_command : App
-why_command = with_rule (with_rule (new_app (codes "why")) (text_option (codes "bundle"))) paths_argument
+why_command = with_rule (with_choice (with_rule (new_app (codes "why")) (text_option (codes "bundle")))) paths_argument
 
 -- `dfsolve COMMAND` of the commands that have to do with no engine but the program's own (own)
 abbrev pub asking_command : App
@@ -99,21 +99,21 @@ llb_options = with_rule (with_rule (with_rule (new_app (codes "llb")) (text_opti
 abbrev pub llb_choices : App
 llb_choices = with_rule (with_rule llb_options (text_option (codes "merge"))) (flag (codes "follow"))
 
--- `llb [--platform P] [--network N] --unique TEXT [--merge M] [--follow] [FILE]` (own)
+-- `llb [--platform P] [--network N] --unique TEXT [--merge M] [--follow] [FILE|DIR]` with the options of a folder (own)
 abbrev pub llb_command : App
-llb_command = with_rule llb_choices bundle_argument
+llb_command = with_source llb_choices
 
--- `config [FILE]` (own)
+-- `config [FILE|DIR]` with the options of a folder (own)
 abbrev pub config_command : App
-config_command = with_rule (new_app (codes "config")) bundle_argument
+config_command = with_source (new_app (codes "config"))
 
--- `check [--json] [FILE]` (own)
+-- `check [--json] [FILE|DIR]` with the options of a folder (own)
 abbrev pub check_command : App
-check_command = with_rule (with_rule (new_app (codes "check")) (flag (codes "json"))) bundle_argument
+check_command = with_source (with_rule (new_app (codes "check")) (flag (codes "json")))
 
--- `explain [FILE]` (own)
+-- `explain [FILE|DIR]` with the options of a folder (own)
 abbrev pub explain_command : App
-explain_command = with_rule (new_app (codes "explain")) bundle_argument
+explain_command = with_source (new_app (codes "explain"))
 
 -- `dfsolve COMMAND` (own)
 abbrev pub whole_command : App

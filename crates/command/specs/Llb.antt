@@ -3,12 +3,14 @@ use Rattle.std.specs.Prelude.{◌==◌, ◌&&◌, Bool, not, List, Option, Some,
 use Rattle.std.specs.List.{position_or_len, before_first, after_first}
 use Rattle.clap.specs.Words.{Row, Text, first_of}
 use Rattle.command.specs.Flags.{is_set}
+use Rattle.command.specs.Sources.{source_of}
 use Rattle.command.specs.declared.task.LlbOptions.{LlbOptions}
 use Rattle.command.specs.declared.task.MergeName.{MergeName}
 use Rattle.command.specs.declared.task.MergeName.TheVariants.{Native, Chain}
 use Rattle.command.specs.declared.task.NetworkName.{NetworkName}
 use Rattle.command.specs.declared.task.NetworkName.TheVariants.{Usual, Absent, Host}
 use Rattle.command.specs.declared.task.PlatformName.{PlatformName}
+use Rattle.command.specs.declared.task.Source.{Source}
 
 -- the platform of words that name none
 abbrev pub default_platform : Text
@@ -84,16 +86,17 @@ unique_named text = if length text == 0 then None else Some text
 abbrev pub unique_of : List Row → Option Text
 unique_of rows = option_and_then unique_named (first_of (codes "unique") rows)
 
--- what `llb` is asked for by its matches, with this text that no other build has, this platform, this network and such merges
-abbrev pub llb_with : List Row → Text → PlatformName → NetworkName → MergeName → LlbOptions
-llb_with rows unique platform network merging =
-    record { file = first_of (codes "FILE") rows; platform = platform; network = network; merging = merging; follow = is_set (codes "follow") rows; unique = unique }
+-- what `llb` is asked for by its matches, with this text that no other build has, this platform, this network and such merges, of this bundle
+abbrev pub llb_with : List Row → Text → PlatformName → NetworkName → MergeName → Source → LlbOptions
+llb_with rows unique platform network merging source =
+    record { source = source; platform = platform; network = network; merging = merging; follow = is_set (codes "follow") rows; unique = unique }
 
--- the same, where there are such a platform and such a network, and it is said what a merge is
-abbrev pub llb_on : List Row → Text → PlatformName → Option NetworkName → Option LlbOptions
-llb_on rows unique platform network = option_and_then (λ network. option_map (llb_with rows unique platform network) (merge_of rows)) network
+-- the same, where it is said what a merge is and what the bundle is taken from
+abbrev pub llb_by : List Row → Text → PlatformName → NetworkName → Option LlbOptions
+llb_by rows unique platform network =
+    option_and_then (λ merging. option_map (llb_with rows unique platform network merging) (source_of (codes "FILE") rows)) (merge_of rows)
 
--- the same, where there is such a text too
+-- the same, where there are such a text, such a platform and such a network too
 abbrev pub llb_of : List Row → Option LlbOptions
 llb_of rows =
-    option_and_then (λ unique. option_and_then (λ platform. llb_on rows unique platform (network_of rows)) (platform_of rows)) (unique_of rows)
+    option_and_then (λ unique. option_and_then (λ platform. option_and_then (llb_by rows unique platform) (network_of rows)) (platform_of rows)) (unique_of rows)

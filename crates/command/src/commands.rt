@@ -1,7 +1,7 @@
 ghost use Rattle.std.specs.Prelude.{◌≡◌, IfOk, IsOkAnd, false};
 ghost use Rattle.clap.specs.Words.{App, Rule, app_of, new_app, rule_of, with_rule, with_subcommand};
 ghost use Rattle.clap.specs.declared.builder.command.Command.TheViews.{out-Command};
-ghost use Rattle.command.specs.CommandLine.{argument_option, asking_command, bare_command, build_command, bundle_argument, bundle_command, check_command, config_command, explain_command, flag, folder_argument, graph_command, image_option, llb_choices, llb_command, llb_options, pack_command, pack_from, pack_to, pack_with, paths_argument, text_option, whole_command, why_command, workers_option};
+ghost use Rattle.command.specs.CommandLine.{argument_option, asking_command, bare_command, build_command, bundle_argument, bundle_command, check_command, config_command, explain_command, flag, folder_argument, graph_command, image_option, llb_choices, llb_command, llb_options, pack_command, pack_to, paths_argument, text_option, whole_command, why_command, with_choice, with_source, workers_option};
 
 use clap::{Arg, ArgAction, Command, value_parser};
 use plain::limits::MOST_WORKERS;
@@ -13,13 +13,13 @@ pub const LEAST_WORKERS: u8 = 1;
 /// The number of workers of a build whose words give none.
 const DEFAULT_WORKERS: &str = "4";
 
-/// The file of a bundle, as it is called in help.
+/// The argument that names a bundle's file or a folder.
 pub const BUNDLE: &str = "FILE";
 
 /// The folder of `pack`, as it is called in help.
 pub const FOLDER: &str = "DIR";
 
-/// The options of `pack`, which have the names of their options as ids.
+/// The options that choose what the bundle of a folder has. Each option has its name as its id.
 pub const FILE: &str = "file";
 
 pub const TARGET: &str = "target";
@@ -28,6 +28,7 @@ pub const BUILD_ARGUMENT: &str = "build-arg";
 
 pub const IMAGE: &str = "image";
 
+/// The options of `pack`.
 pub const OUTPUT: &str = "output";
 
 pub const APPLY_IGNORE: &str = "apply-ignore";
@@ -37,7 +38,7 @@ pub const NAMES: &str = "names";
 /// The flag of `graph`.
 pub const DOT: &str = "dot";
 
-/// The option of `why` that names the bundle's file.
+/// The option of `why` that names the bundle's file or a folder.
 pub const BUNDLE_FILE: &str = "bundle";
 
 /// A path of `why`, as it is called in help.
@@ -68,28 +69,28 @@ pub const DEFAULT_MERGE: &str = "native";
 
 /// What stands at the end of each command's help: its statuses and an example.
 const BUILD_HELP: &str =
-    "Status: 0 if a tree was built, 1 if an instruction failed, 2 if the bundle or the command line is refused, 3 if there was no memory or a device failed.\nExample: dfsolve pack . | dfsolve build";
+    "Status: 0 if a tree was built, 1 if an instruction failed, 2 if the bundle or the command line is refused, 3 if there was no memory or a device failed.\nExample: dfsolve build .";
 
 const GRAPH_HELP: &str =
-    "Status: 0 if the graph was printed, 2 if the bundle or the command line is refused, 3 if there was no memory, a device failed or two addresses are the same.\nExample: dfsolve pack . | dfsolve graph --dot | dot -Tsvg >graph.svg";
+    "Status: 0 if the graph was printed, 2 if the bundle or the command line is refused, 3 if there was no memory, a device failed or two addresses are the same.\nExample: dfsolve graph --dot . | dot -Tsvg >graph.svg";
 
 const PACK_HELP: &str =
     "Status: 0 if the folder was packed, 2 if it has no Dockerfile or the command line is refused, 3 if there was no memory, a device failed or the folder can't be packed.\nExample: dfsolve pack . --apply-ignore --output bundle.json";
 
 const WHY_HELP: &str =
-    "Status: 0 if the paths were explained, 2 if the bundle or the command line is refused, 3 if there was no memory or a device failed.\nExample: dfsolve why --bundle bundle.json src/main.c README.md";
+    "Status: 0 if the paths were explained, 2 if the bundle or the command line is refused, 3 if there was no memory or a device failed.\nExample: dfsolve why --bundle . src/main.c README.md";
 
 const LLB_HELP: &str =
-    "Status: 0 if the definition was written, 2 if the bundle or the command line is refused, 3 if there was no memory, a device failed or two addresses are the same.\nExample: dfsolve llb --unique \"$(date +%s%N)\" bundle.json | buildctl build --local context=.";
+    "Status: 0 if the definition was written, 2 if the bundle or the command line is refused, 3 if there was no memory, a device failed or two addresses are the same.\nExample: dfsolve llb --unique \"$(date +%s%N)\" . | buildctl build --local context=.";
 
 const CONFIG_HELP: &str =
-    "Status: 0 if the configuration was printed, 2 if the bundle or the command line is refused, 3 if there was no memory or a device failed.\nExample: dfsolve config bundle.json";
+    "Status: 0 if the configuration was printed, 2 if the bundle or the command line is refused, 3 if there was no memory or a device failed.\nExample: dfsolve config .";
 
 const CHECK_HELP: &str =
-    "Status: 0 if there is no fault, 1 if there is one, 2 if the command line is refused, 3 if there was no memory or a device failed.\nExample: dfsolve pack . | dfsolve check";
+    "Status: 0 if there is no fault, 1 if there is one, 2 if the command line is refused, 3 if there was no memory or a device failed.\nExample: dfsolve check .";
 
 const EXPLAIN_HELP: &str =
-    "Status: 0 if a tree is built, 1 if an instruction fails, 2 if the bundle or the command line is refused, 3 if there was no memory or a device failed.\nExample: dfsolve explain bundle.json";
+    "Status: 0 if a tree is built, 1 if an instruction fails, 2 if the bundle or the command line is refused, 3 if there was no memory or a device failed.\nExample: dfsolve explain .";
 
 /// The version of the program, which `--version` prints after its name.
 const VERSION: &str = "0.1.0";
@@ -198,31 +199,65 @@ fn with_argument<'a>(
     }
 }
 
-/// `build [--workers N] [FILE]`.
+/// The command with the options that choose what the bundle of a folder has.
+fn with_choice<'a>(
+    alloc: Global,
+    command: Result<Command<'a>, AllocError>,
+) -> Result<Command<'a>, AllocError>
+    ensures app { (app : App) → IfOk command.entry (λ command. app_of command ≡ app) → IfOk result (λ whole. app_of whole ≡ with_choice app) }
+    ensures local { IfOk command.entry (λ command. (out-Command command).has_globals ≡ false)
+        → IfOk result (λ whole. (out-Command whole).has_globals ≡ false) }
+{
+    let file = text_option(
+        alloc,
+        FILE,
+        "FILE",
+        "The Dockerfile of a folder, in place of DIR/Dockerfile",
+    );
+    let target = text_option(alloc, TARGET, "STAGE", "The stage to build, of a folder");
+    let command = with_argument(command, file);
+    let command = with_argument(command, target);
+    let command = with_argument(command, argument_option(alloc));
+    with_argument(command, image_option(alloc))
+}
+
+/// The command with what a bundle is taken from: the options of a folder, and `[FILE|DIR]`.
+fn with_source<'a>(
+    alloc: Global,
+    command: Result<Command<'a>, AllocError>,
+) -> Result<Command<'a>, AllocError>
+    ensures app { (app : App) → IfOk command.entry (λ command. app_of command ≡ app) → IfOk result (λ whole. app_of whole ≡ with_source app) }
+    ensures local { IfOk command.entry (λ command. (out-Command command).has_globals ≡ false)
+        → IfOk result (λ whole. (out-Command whole).has_globals ≡ false) }
+{
+    let command = with_choice(alloc, command);
+    with_argument(command, bundle_argument(alloc))
+}
+
+/// `build [--workers N] [FILE|DIR]` with the options of a folder.
 fn build_command<'a>(alloc: Global) -> Result<Command<'a>, AllocError>
     ensures app { IfOk result (λ command. app_of command ≡ build_command) }
     ensures local { IfOk result (λ command. (out-Command command).has_globals ≡ false) }
 {
-    let about = "Solves the bundle of a file, or on standard input, and prints the answer";
+    let about = "Solves a bundle or a folder, and prints the answer";
     let command = described(alloc, "build", about, BUILD_HELP);
     let command = with_argument(Ok(command), workers_option(alloc));
-    with_argument(command, bundle_argument(alloc))
+    with_source(alloc, command)
 }
 
-/// `graph [--dot] [FILE]`.
+/// `graph [--dot] [FILE|DIR]` with the options of a folder.
 fn graph_command<'a>(alloc: Global) -> Result<Command<'a>, AllocError>
     ensures app { IfOk result (λ command. app_of command ≡ graph_command) }
     ensures local { IfOk result (λ command. (out-Command command).has_globals ≡ false) }
 {
-    let about =
-        "Prints the graph of the bundle of a file, or on standard input, by content addresses";
+    let about = "Prints the graph of a bundle or a folder, by content addresses";
     let command = described(alloc, "graph", about, GRAPH_HELP);
     let dot = "Print it in the DOT language of Graphviz, with the instructions and their lines";
     let command = with_argument(Ok(command), flag(alloc, DOT, dot));
-    with_argument(command, bundle_argument(alloc))
+    with_source(alloc, command)
 }
 
-/// `pack DIR [--file F] [--target T] [--build-arg N=V].. [--image NAME=FILE].. [--output FILE] [--apply-ignore] [--names]`.
+/// `pack DIR [--output FILE] [--apply-ignore] [--names]` with the options of a folder.
 fn pack_command<'a>(alloc: Global) -> Result<Command<'a>, AllocError>
     ensures app { IfOk result (λ command. app_of command ≡ pack_command) }
     ensures local { IfOk result (λ command. (out-Command command).has_globals ≡ false) }
@@ -241,65 +276,42 @@ fn pack_command<'a>(alloc: Global) -> Result<Command<'a>, AllocError>
     with_argument(command, names)
 }
 
-/// `pack DIR [--file F] [--target T] [--build-arg N=V].. [--image NAME=FILE].. [--output FILE]`.
+/// `pack DIR [--output FILE]` with the options of a folder.
 fn pack_to<'a>(alloc: Global) -> Result<Command<'a>, AllocError>
     ensures app { IfOk result (λ command. app_of command ≡ pack_to) }
     ensures local { IfOk result (λ command. (out-Command command).has_globals ≡ false) }
 {
-    let output = text_option(alloc, OUTPUT, "FILE", "Write the bundle to this file");
-    with_argument(pack_with(alloc), output)
-}
-
-/// `pack DIR [--file F] [--target T] [--build-arg N=V].. [--image NAME=FILE]..`.
-fn pack_with<'a>(alloc: Global) -> Result<Command<'a>, AllocError>
-    ensures app { IfOk result (λ command. app_of command ≡ pack_with) }
-    ensures local { IfOk result (λ command. (out-Command command).has_globals ≡ false) }
-{
-    let command = with_argument(pack_from(alloc), argument_option(alloc));
-    with_argument(command, image_option(alloc))
-}
-
-/// `pack DIR [--file F] [--target T]`.
-fn pack_from<'a>(alloc: Global) -> Result<Command<'a>, AllocError>
-    ensures app { IfOk result (λ command. app_of command ≡ pack_from) }
-    ensures local { IfOk result (λ command. (out-Command command).has_globals ≡ false) }
-{
     let command = described(alloc, "pack", "Prints the bundle of a folder", PACK_HELP);
-    let file = text_option(
-        alloc,
-        FILE,
-        "FILE",
-        "The Dockerfile, in place of DIR/Dockerfile",
-    );
-    let target = text_option(alloc, TARGET, "STAGE", "The stage to build");
     let command = with_argument(Ok(command), folder_argument(alloc));
-    let command = with_argument(command, file);
-    with_argument(command, target)
+    let command = with_choice(alloc, command);
+    let output = text_option(alloc, OUTPUT, "FILE", "Write the bundle to this file");
+    with_argument(command, output)
 }
 
-/// `why [--bundle FILE] PATH..`.
+/// `why [--bundle FILE|DIR] PATH..` with the options of a folder.
 fn why_command<'a>(alloc: Global) -> Result<Command<'a>, AllocError>
     ensures app { IfOk result (λ command. app_of command ≡ why_command) }
     ensures local { IfOk result (λ command. (out-Command command).has_globals ≡ false) }
 {
     let about = "Tells which paths of the context the ignore file keeps, and by which of its lines";
     let command = described(alloc, "why", about, WHY_HELP);
-    let file = text_option(
+    let bundle = text_option(
         alloc,
         BUNDLE_FILE,
-        "FILE",
-        "The bundle, in place of standard input",
+        "FILE|DIR",
+        "The bundle's file, or a folder, in place of standard input",
     );
-    let command = with_argument(Ok(command), file);
+    let command = with_argument(Ok(command), bundle);
+    let command = with_choice(alloc, command);
     with_argument(command, paths_argument(alloc))
 }
 
-/// `llb [--platform P] [--network N] --unique TEXT [--merge M] [--follow] [FILE]`.
+/// `llb [--platform P] [--network N] --unique TEXT [--merge M] [--follow] [FILE|DIR]` with the options of a folder.
 fn llb_command<'a>(alloc: Global) -> Result<Command<'a>, AllocError>
     ensures app { IfOk result (λ command. app_of command ≡ llb_command) }
     ensures local { IfOk result (λ command. (out-Command command).has_globals ≡ false) }
 {
-    with_argument(llb_choices(alloc), bundle_argument(alloc))
+    with_source(alloc, llb_choices(alloc))
 }
 
 /// `llb [--platform P] [--network N] --unique TEXT [--merge M] [--follow]`.
@@ -327,7 +339,7 @@ fn llb_options<'a>(alloc: Global) -> Result<Command<'a>, AllocError>
     ensures app { IfOk result (λ command. app_of command ≡ llb_options) }
     ensures local { IfOk result (λ command. (out-Command command).has_globals ≡ false) }
 {
-    let about = "Writes the graph of a bundle as a definition of BuildKit's LLB";
+    let about = "Writes the graph of a bundle or a folder as a definition of BuildKit's LLB";
     let command = described(alloc, "llb", about, LLB_HELP);
     let platform = text_option(
         alloc,
@@ -352,44 +364,47 @@ fn llb_options<'a>(alloc: Global) -> Result<Command<'a>, AllocError>
     with_argument(command, unique)
 }
 
-/// `config [FILE]`.
+/// `config [FILE|DIR]` with the options of a folder.
 fn config_command<'a>(alloc: Global) -> Result<Command<'a>, AllocError>
     ensures app { IfOk result (λ command. app_of command ≡ config_command) }
     ensures local { IfOk result (λ command. (out-Command command).has_globals ≡ false) }
 {
-    let about = "Prints the configuration of the target of a bundle, without a build";
+    let about = "Prints the configuration of the target of a bundle or a folder, without a build";
     let command = described(alloc, "config", about, CONFIG_HELP);
-    with_argument(Ok(command), bundle_argument(alloc))
+    with_source(alloc, Ok(command))
 }
 
-/// `check [--json] [FILE]`.
+/// `check [--json] [FILE|DIR]` with the options of a folder.
 fn check_command<'a>(alloc: Global) -> Result<Command<'a>, AllocError>
     ensures app { IfOk result (λ command. app_of command ≡ check_command) }
     ensures local { IfOk result (λ command. (out-Command command).has_globals ≡ false) }
 {
-    let about = "Prints all faults of a bundle, with what helps, and builds nothing";
+    let about = "Prints all faults of a bundle or a folder, with what helps, and builds nothing";
     let command = described(alloc, "check", about, CHECK_HELP);
     let json = flag(alloc, JSON, "Print each fault as a line of JSON");
     let command = with_argument(Ok(command), json);
-    with_argument(command, bundle_argument(alloc))
+    with_source(alloc, command)
 }
 
-/// `explain [FILE]`.
+/// `explain [FILE|DIR]` with the options of a folder.
 fn explain_command<'a>(alloc: Global) -> Result<Command<'a>, AllocError>
     ensures app { IfOk result (λ command. app_of command ≡ explain_command) }
     ensures local { IfOk result (λ command. (out-Command command).has_globals ≡ false) }
 {
-    let about = "Builds a bundle, and prints which instruction fails and why, or all its faults";
+    let about =
+        "Builds a bundle or a folder, and prints which instruction fails and why, or all its faults";
     let command = described(alloc, "explain", about, EXPLAIN_HELP);
-    with_argument(Ok(command), bundle_argument(alloc))
+    with_source(alloc, Ok(command))
 }
 
-/// `FILE`.
+/// `FILE|DIR`.
 fn bundle_argument<'a>(alloc: Global) -> Arg<'a>
     ensures rule { rule_of result ≡ bundle_argument }
     ensures local { result.global ≡ false }
 {
-    Arg::new(alloc, BUNDLE).help("The bundle, in place of standard input")
+    Arg::new(alloc, BUNDLE).value_name("FILE|DIR").help(
+        "The bundle's file, or a folder, in place of standard input",
+    )
 }
 
 /// `DIR`.

@@ -9,7 +9,7 @@
 //
 // ```
 // match read_command(alloc, ["build"].as_slice()) {
-//     Ok(task) => ..,                    // Task::Build, with 4 workers and no file
+//     Ok(task) => ..,                    // Task::Build, with 4 workers, of standard input
 //     Err(error) => error.print(rt)?,
 // }
 // ```
@@ -22,6 +22,6 @@ mod task;
 
 pub use reading::read_command;
 pub use task::{
-    BuildOptions, CheckOptions, GraphOptions, LlbOptions, MergeName, NetworkName, PackOptions,
-    PlatformName, Task, WhyOptions,
+    BuildOptions, CheckOptions, Choice, GraphOptions, LlbOptions, MergeName, NetworkName,
+    PackOptions, PlatformName, Source, Task, WhyOptions,
 };

@@ -7,14 +7,14 @@ use crate::commands::{
     BUNDLE, DEFAULT_MERGE, DEFAULT_NETWORK, DEFAULT_PLATFORM, FOLLOW, MERGE, NETWORK, PLATFORM,
     UNIQUE,
 };
-use crate::reading::{is_set, text_of};
+use crate::reading::{is_set, source_of, text_of};
 use crate::{LlbOptions, MergeName, NetworkName, PlatformName};
 use clap::ArgMatches;
 use plain::Text;
 use std::alloc::{AllocError, Global};
 
-/// What the matches of `llb` ask for; `None` where they hold no text of `--unique` or the empty one, no platform, no network, or no kind of
-/// merge.
+/// What the matches of `llb` ask for; `None` where they hold no text of `--unique` or the empty one, no platform, no network, no kind of
+/// merge, or nothing that a bundle can be taken from.
 pub(crate) fn llb_of(alloc: Global, matches: &ArgMatches) -> Result<Option<LlbOptions>, AllocError>
     ensures { IfOk result (λ options. options ≡ llb_of (rows_of (found_of matches.now))) }
 {
@@ -30,8 +30,11 @@ pub(crate) fn llb_of(alloc: Global, matches: &ArgMatches) -> Result<Option<LlbOp
     let Some(platform) = platform_of(alloc, matches)? else {
         return Ok(None);
     };
+    let Some(source) = source_of(alloc, matches, BUNDLE)? else {
+        return Ok(None);
+    };
     Ok(Some(LlbOptions {
-        file: text_of(alloc, matches, BUNDLE)?,
+        source,
         platform,
         network,
         merging,
@@ -40,7 +43,7 @@ pub(crate) fn llb_of(alloc: Global, matches: &ArgMatches) -> Result<Option<LlbOp
     }))
 }
 
-/// What is wrong with the matches of `llb`, where they ask for nothing.
+/// What is wrong with the matches of `llb`, where a bundle can be taken from something and they ask for nothing.
 pub(crate) fn wrong_choice(alloc: Global, matches: &ArgMatches) -> Result<String, AllocError> {
     if chosen_text(matches, UNIQUE, "").is_empty() {
         return String::from_str(

@@ -6,7 +6,8 @@ ghost use Rattle.clap.specs.declared.error.kind.ErrorKind.TheVariants.{ValueVali
 ghost use Rattle.command.specs.CommandLine.{whole_command};
 ghost use Rattle.command.specs.Flags.{is_set};
 ghost use Rattle.command.specs.PrivateTasks.{IsAnswer};
-ghost use Rattle.command.specs.Tasks.{IsTaskOf, IsWorkers, faults_of, halves_of, has_equals, pack_of, pairs_of, paths_of};
+ghost use Rattle.command.specs.Sources.{choice_of, halves_of, has_equals, pairs_of, source_of, source_with};
+ghost use Rattle.command.specs.Tasks.{IsTaskOf, IsWorkers, faults_of, pack_of, paths_of};
 ghost use Rattle.command.specs.declared.task.Task.{Task};
 
 use crate::commands::{
@@ -14,7 +15,9 @@ use crate::commands::{
     LEAST_WORKERS, NAMES, OUTPUT, PATH, TARGET, whole_command,
 };
 use crate::llb::{llb_of, wrong_choice};
-use crate::{BuildOptions, CheckOptions, GraphOptions, PackOptions, Task, WhyOptions};
+use crate::{
+    BuildOptions, CheckOptions, Choice, GraphOptions, PackOptions, Source, Task, WhyOptions,
+};
 use clap::error::ErrorKind;
 use clap::{ArgMatches, Error};
 use plain::limits::MOST_WORKERS;
@@ -23,21 +26,20 @@ use std::alloc::{AllocError, Global};
 
 /// The task that the words ask for: those after the program's name, which `env::args` gives first.
 ///
-/// `graph` is a command with a word FILE that may be left out, and with `--dot` once at most. `build` is one with that word and `--workers N` or `--workers=N` once at most; N is
-/// decimal digits, of which a `+` may stand in front, and its value is 1 to 64; the default is 4. `pack` is one with a word DIR, with
-/// `--file F`, `--target T`, `--output FILE`, `--apply-ignore` and `--names` once at most, and with `--build-arg N=V` and `--image NAME=FILE` any number
-/// of times, each of which has a `=`.
-/// `why` is one with a word PATH once or more, and with `--bundle FILE` once at most.
-/// `llb` is one with a word FILE that may be left out, with `--unique TEXT` just once, and with `--platform P`, `--network N`, `--merge M`
-/// and `--follow` once at most; TEXT isn't empty; P is `OS/ARCH` or `OS/ARCH/VARIANT`, and `linux/amd64` by default; N is `default`, `none` or `host`,
-/// and M is `native` or `chain`, and the first of these by default.
-/// `config`, `check` and `explain` are commands with a word FILE that may be left out, and `check` with `--json` once at most.
+/// Every command but `pack` takes a bundle from a file or a folder that a word FILE names, or with `why` `--bundle FILE`, or from standard input where
+/// there is none. It has `--file F` and `--target T` once at most, and `--build-arg N=V` and `--image NAME=FILE` any number of times, each of which
+/// has a `=`. These choose of a folder, so none of them stands beside standard input.
+/// `build` has `--workers N` or `--workers=N` once at most; N is decimal digits, of which a `+` may stand in front, and its value is 1 to 64; the
+/// default is 4. `graph` has `--dot` and `check` has `--json`, each once at most. `why` has a word PATH once or more.
+/// `llb` has `--unique TEXT` just once, and `--platform P`, `--network N`, `--merge M` and `--follow` once at most; TEXT isn't empty; P is `OS/ARCH` or
+/// `OS/ARCH/VARIANT`, and `linux/amd64` by default; N is `default`, `none` or `host`, and M is `native` or `chain`, and the first of these by default.
+/// `pack` has a word DIR, the options that choose of a folder, and `--output FILE`, `--apply-ignore` and `--names` once at most.
 /// `help` alone or before the name of a command, `--help` and `-h`, before a command or after it, ask for help, and `--version` or `-V`
 /// before it for the program's name and version.
 ///
 /// An error is clap's, and its kind tells what it is: help or the version that was asked for, which are no faults; a fault of the words;
-/// or want of memory. The text that it prints is clap's, except of a build argument or an image without a `=` and of the options of `llb`, of which
-/// it says what is wrong.
+/// or want of memory. The text that it prints is clap's, except of a build argument or an image without a `=`, of what is chosen beside standard
+/// input, and of the options of `llb`, of which it says what is wrong.
 pub fn read_command<'a>(alloc: Global, words: &'a [&'a str]) -> Result<Task, Error>
     ensures task { IfOk result
         (IsTaskOf (subcommand_of whole_command (map (λ word. word.now) words.entry.now))) }
@@ -88,35 +90,47 @@ fn refusal(alloc: Global, text: &str) -> Result<Error, AllocError>
 
 /// What is said of matches that ask for no task.
 fn wrong_argument(alloc: Global, matches: &ArgMatches) -> Result<String, AllocError> {
-    if let Some((name, found)) = matches.subcommand() {
-        if name == "llb" {
-            return wrong_choice(alloc, found);
-        }
+    let Some((name, found)) = matches.subcommand() else {
+        return String::from_str(alloc, "");
+    };
+    if let Some(text) = bare_text(found, BUILD_ARGUMENT) {
+        return format!(in alloc; "a value of --build-arg is NAME=VALUE, and '{text}' has no '='");
     }
-    no_equals(alloc, matches)
-}
-
-/// What is said of a build argument or an image without a `=`.
-fn no_equals(alloc: Global, matches: &ArgMatches) -> Result<String, AllocError> {
-    match bare_text(matches, BUILD_ARGUMENT) {
-        Some(text) => {
-            format!(in alloc; "a value of --build-arg is NAME=VALUE, and '{text}' has no '='")
-        }
-        None => {
-            let text = bare_text(matches, IMAGE).unwrap_or("");
-            format!(in alloc; "a value of --image is NAME=FILE, and '{text}' has no '='")
-        }
+    if let Some(text) = bare_text(found, IMAGE) {
+        return format!(in alloc; "a value of --image is NAME=FILE, and '{text}' has no '='");
+    }
+    match misplaced_choice(alloc, name, found)? {
+        Some(text) => String::from_str(alloc, text),
+        None => wrong_choice(alloc, found),
     }
 }
 
-/// The first text of an option of `pack` that has no `=`.
+/// What is wrong with what is chosen beside a bundle on standard input.
+fn misplaced_choice(
+    alloc: Global,
+    name: &str,
+    matches: &ArgMatches,
+) -> Result<Option<&'static str>, AllocError> {
+    let place = if name == "why" { BUNDLE_FILE } else { BUNDLE };
+    if matches.get_str(place).is_some() {
+        return Ok(None);
+    }
+    match choice_of(alloc, matches)? {
+        Some(choice) => {
+            let text = choice.misplaced();
+            drop(choice);
+            Ok(text)
+        }
+        None => Ok(None),
+    }
+}
+
+/// The first text of an option that has no `=`.
 fn bare_text<'m, 'a>(matches: &'m ArgMatches<'a>, id: &str) -> Option<&'a str> {
-    if let Some((_, found)) = matches.subcommand() {
-        if let Some(texts) = texts_of(found, id) {
-            for text in texts {
-                if text.split_once('=').is_none() {
-                    return Some(*text);
-                }
+    if let Some(texts) = texts_of(matches, id) {
+        for text in texts {
+            if text.split_once('=').is_none() {
+                return Some(*text);
             }
         }
     }
@@ -151,24 +165,30 @@ fn named_task(alloc: Global, name: &str, matches: &ArgMatches) -> Result<Option<
     }
 }
 
-/// What the matches of `build` ask for; `None` where they hold no number of workers.
+/// What the matches of `build` ask for; `None` where they hold no number of workers, or nothing that a bundle can be taken from.
 fn build_task(alloc: Global, matches: &ArgMatches) -> Result<Option<Task>, AllocError>
     ensures { IfOk result (IsAnswer (codes "build", rows_of (found_of matches.now))) }
 {
     let Some(workers) = workers_of(matches) else {
         return Ok(None);
     };
-    let file = text_of(alloc, matches, BUNDLE)?;
-    Ok(Some(Task::Build(BuildOptions { workers, file })))
+    let Some(source) = source_of(alloc, matches, BUNDLE)? else {
+        return Ok(None);
+    };
+    Ok(Some(Task::Build(BuildOptions { workers, source })))
 }
 
-/// What the matches of `graph` ask for.
+/// What the matches of `graph` ask for; `None` where they hold nothing that a bundle can be taken from.
 fn graph_task(alloc: Global, matches: &ArgMatches) -> Result<Option<Task>, AllocError>
     ensures { IfOk result (IsAnswer (codes "graph", rows_of (found_of matches.now))) }
 {
-    let file = text_of(alloc, matches, BUNDLE)?;
-    let dot = is_set(matches, DOT);
-    Ok(Some(Task::Graph(GraphOptions { file, dot })))
+    let Some(source) = source_of(alloc, matches, BUNDLE)? else {
+        return Ok(None);
+    };
+    Ok(Some(Task::Graph(GraphOptions {
+        source,
+        dot: is_set(matches, DOT),
+    })))
 }
 
 /// What the matches of `pack` ask for; `None` where they hold no folder, or a build argument or an image without a `=`.
@@ -181,13 +201,15 @@ fn pack_task(alloc: Global, matches: &ArgMatches) -> Result<Option<Task>, AllocE
     }
 }
 
-/// What the matches of `why` ask for.
+/// What the matches of `why` ask for; `None` where they hold nothing that a bundle can be taken from.
 fn why_task(alloc: Global, matches: &ArgMatches) -> Result<Option<Task>, AllocError>
     ensures { IfOk result (IsAnswer (codes "why", rows_of (found_of matches.now))) }
 {
-    let file = text_of(alloc, matches, BUNDLE_FILE)?;
+    let Some(source) = source_of(alloc, matches, BUNDLE_FILE)? else {
+        return Ok(None);
+    };
     let paths = paths_of(alloc, matches)?;
-    Ok(Some(Task::Why(WhyOptions { file, paths })))
+    Ok(Some(Task::Why(WhyOptions { source, paths })))
 }
 
 /// What the matches of `llb` ask for; `None` where they lack what `llb` needs.
@@ -200,27 +222,37 @@ fn llb_task(alloc: Global, matches: &ArgMatches) -> Result<Option<Task>, AllocEr
     }
 }
 
-/// What the matches of `config` ask for.
+/// What the matches of `config` ask for; `None` where they hold nothing that a bundle can be taken from.
 fn config_task(alloc: Global, matches: &ArgMatches) -> Result<Option<Task>, AllocError>
     ensures { IfOk result (IsAnswer (codes "config", rows_of (found_of matches.now))) }
 {
-    Ok(Some(Task::Config(text_of(alloc, matches, BUNDLE)?)))
+    match source_of(alloc, matches, BUNDLE)? {
+        Some(source) => Ok(Some(Task::Config(source))),
+        None => Ok(None),
+    }
 }
 
-/// What the matches of `check` ask for.
+/// What the matches of `check` ask for; `None` where they hold nothing that a bundle can be taken from.
 fn check_task(alloc: Global, matches: &ArgMatches) -> Result<Option<Task>, AllocError>
     ensures { IfOk result (IsAnswer (codes "check", rows_of (found_of matches.now))) }
 {
-    let file = text_of(alloc, matches, BUNDLE)?;
-    let json = is_set(matches, JSON);
-    Ok(Some(Task::Check(CheckOptions { file, json })))
+    let Some(source) = source_of(alloc, matches, BUNDLE)? else {
+        return Ok(None);
+    };
+    Ok(Some(Task::Check(CheckOptions {
+        source,
+        json: is_set(matches, JSON),
+    })))
 }
 
-/// What the matches of `explain` ask for.
+/// What the matches of `explain` ask for; `None` where they hold nothing that a bundle can be taken from.
 fn explain_task(alloc: Global, matches: &ArgMatches) -> Result<Option<Task>, AllocError>
     ensures { IfOk result (IsAnswer (codes "explain", rows_of (found_of matches.now))) }
 {
-    Ok(Some(Task::Explain(text_of(alloc, matches, BUNDLE)?)))
+    match source_of(alloc, matches, BUNDLE)? {
+        Some(source) => Ok(Some(Task::Explain(source))),
+        None => Ok(None),
+    }
 }
 
 /// The options of `pack` by its matches; `None` where they hold no folder, or a build argument or an image without a `=`.
@@ -230,21 +262,59 @@ fn pack_of(alloc: Global, matches: &ArgMatches) -> Result<Option<PackOptions>, A
     let Some(folder) = text_of(alloc, matches, FOLDER)? else {
         return Ok(None);
     };
+    let Some(choice) = choice_of(alloc, matches)? else {
+        return Ok(None);
+    };
+    Ok(Some(PackOptions {
+        folder,
+        choice,
+        output: text_of(alloc, matches, OUTPUT)?,
+        apply_ignore: is_set(matches, APPLY_IGNORE),
+        names: is_set(matches, NAMES),
+    }))
+}
+
+/// What a bundle is taken from by the matches, where this argument names its file or a folder; `None` where a build argument or an image has no
+/// `=`, and where something is chosen beside standard input.
+pub(crate) fn source_of(
+    alloc: Global,
+    matches: &ArgMatches,
+    id: &str,
+) -> Result<Option<Source>, AllocError>
+    ensures { IfOk result (λ source. source ≡ source_of id.now (rows_of (found_of matches.now))) }
+{
+    let place = text_of(alloc, matches, id)?;
+    match choice_of(alloc, matches)? {
+        Some(choice) => Ok(source_with(place, choice)),
+        None => Ok(None),
+    }
+}
+
+/// A bundle of this file or folder, or on standard input, of which nothing may be chosen.
+fn source_with(place: Option<Text>, choice: Choice) -> Option<Source>
+    ensures { result ≡ source_with place choice }
+{
+    if place.is_some() || !choice.misplaced().is_some() {
+        return Some(Source { place, choice });
+    }
+    None
+}
+
+/// What is chosen of a folder by the matches; `None` where a build argument or an image has no `=`.
+fn choice_of(alloc: Global, matches: &ArgMatches) -> Result<Option<Choice>, AllocError>
+    ensures { IfOk result (λ choice. choice ≡ choice_of (rows_of (found_of matches.now))) }
+{
     let Some(args) = pairs_of(alloc, matches, BUILD_ARGUMENT)? else {
         return Ok(None);
     };
     let Some(images) = pairs_of(alloc, matches, IMAGE)? else {
         return Ok(None);
     };
-    Ok(Some(PackOptions {
-        folder,
+    Ok(Some(Choice {
         file: text_of(alloc, matches, FILE)?,
         target: text_of(alloc, matches, TARGET)?,
         args,
         images,
-        output: text_of(alloc, matches, OUTPUT)?,
-        apply_ignore: is_set(matches, APPLY_IGNORE),
-        names: is_set(matches, NAMES),
     }))
 }
 

@@ -1,6 +1,7 @@
 mod ConfigFacts
 mod DotFacts
 mod FirstFacts
+mod InputFacts
 mod LlbFacts
 mod TaskFacts
 mod TellFacts

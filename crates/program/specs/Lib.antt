@@ -4,7 +4,7 @@ pub mod Dot
 pub mod Explain
 pub mod Faults
 pub mod Llb
-pub mod PrivateFiles
+pub mod PrivateInput
 pub mod PrivateLlb
 pub mod PrivateMoved
 pub mod PrivateRuns

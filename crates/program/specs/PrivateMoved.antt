@@ -1,6 +1,6 @@
 -- What is told of a bundle is told of every one that holds the same: the laws of the tellers. They stand among the definitions since the tellers cite
 -- them as laws of their trait.
-use Rattle.std.proofs.Common.{◌≡◌, codes, inl, inr, ℕ, Bool, true, false, List, Option, Some, None, Result, Ok, Err, sym, ap, ◌∙◌}
+use Rattle.std.proofs.Common.{◌≡◌, inl, inr, ℕ, Bool, true, false, List, Option, Some, None, Result, Ok, Err, sym, ap, ◌∙◌}
 use Rattle.plain.specs.declared.refusal.Refusal.{Refusal}
 use Rattle.plain.specs.declared.fault.Fault.TheVariants.{Because}
 use Rattle.expand.specs.declared.reason.Rejection.{Rejection}
@@ -61,10 +61,10 @@ checked_moved file bytes others form checked same is = record {
   is_sound = is.is_sound;
 }
 
-pub check_moves : (form : Form) → Moves (TellsFaults form)
-check_moves form bytes bundle Built text same told = (told.0, checked_moved (codes "Dockerfile") bytes bundle form told.0 same told.1, told.2, told.3)
-check_moves form bytes bundle Failed text same told = (told.0, checked_moved (codes "Dockerfile") bytes bundle form told.0 same told.1, told.2, told.3)
-check_moves form bytes bundle Refused text same told = told
+pub check_moves : (file : List ℕ) (form : Form) → Moves (TellsFaults file form)
+check_moves file form bytes bundle Built text same told = (told.0, checked_moved file bytes bundle form told.0 same told.1, told.2, told.3)
+check_moves file form bytes bundle Failed text same told = (told.0, checked_moved file bytes bundle form told.0 same told.1, told.2, told.3)
+check_moves file form bytes bundle Refused text same told = told
 
 -- the same configuration
 pub config_moves : Moves TellsConfig

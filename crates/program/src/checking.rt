@@ -16,19 +16,21 @@ use std::thread::Threads;
 ///
 /// `Built` if there is none, and then nothing is written, `Failed` if there is one, and never `Refused`: what a build refuses is such a fault.
 #[derive(Drop)]
-pub(crate) struct FaultTeller {
+pub(crate) struct FaultTeller<'a> {
+    /// What positions call the Dockerfile.
+    pub(crate) file: &'a str,
     pub(crate) form: Form,
 }
 
-impl Teller for FaultTeller {
+impl<'a> Teller for FaultTeller<'a> {
     ghost use Rattle.program.specs.Telling.{never};
     ghost use Rattle.program.specs.PrivateMoved.{check_moves, never_moves};
 
-    ghost tells = { λ teller. TellsFaults teller.form };
+    ghost tells = { λ teller. TellsFaults teller.file.now teller.form };
 
     ghost stops = { λ teller. never };
 
-    ghost moves = { λ teller. check_moves teller.form };
+    ghost moves = { λ teller. check_moves teller.file.now teller.form };
 
     ghost moves_stops = { λ teller. never_moves };
 
@@ -39,7 +41,7 @@ impl Teller for FaultTeller {
         rt: &H,
         bundle: &[u8],
     ) -> Result<Told, TellFault> {
-        Ok(tell_faults(alloc, keys, rt, bundle, self.form)?)
+        Ok(tell_faults(alloc, keys, rt, self.file, bundle, self.form)?)
     }
 }
 
@@ -48,12 +50,13 @@ fn tell_faults(
     alloc: Global,
     keys: RandomState,
     rt: &(impl Threads + Sync),
+    file: &str,
     bundle: &[u8],
     form: Form,
 ) -> Result<Told, Memory>
-    ensures { IfOk result (λ told. TellsFaults form bundle.now told.status told.text) }
+    ensures { IfOk result (λ told. TellsFaults file.now form bundle.now told.status told.text) }
 {
-    let Checked { text, is_sound } = check(alloc, keys, rt, "Dockerfile", bundle, form)?;
+    let Checked { text, is_sound } = check(alloc, keys, rt, file, bundle, form)?;
     let text = Bytes::from_vec(text.into_string(alloc)?.into_bytes());
     if is_sound {
         return Ok(Told {

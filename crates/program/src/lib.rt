@@ -12,13 +12,14 @@
 #![tactic(auto)]
 
 mod arguments;
-mod bundle_file;
 mod bundles;
 mod checking;
 mod config;
+mod ending;
 mod explaining;
 mod exporting;
 mod fault;
+mod input;
 pub mod laws;
 mod picturing;
 mod running;
@@ -28,5 +29,5 @@ mod told;
 mod why;
 
 pub use arguments::{NotText, WordsFault};
-pub use bundles::end_without_keys;
+pub use ending::end_without_keys;
 pub use running::run_program;

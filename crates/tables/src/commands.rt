@@ -4,8 +4,8 @@
 use crate::reading::after_name;
 use clap::Error;
 use command::{
-    BuildOptions, CheckOptions, GraphOptions, LlbOptions, MergeName, NetworkName, PackOptions,
-    Task, WhyOptions, read_command,
+    BuildOptions, CheckOptions, Choice, GraphOptions, LlbOptions, MergeName,
+    NetworkName, PackOptions, Source, Task, WhyOptions, read_command,
 };
 use plain::{Memory, Text};
 use std::alloc::Global;
@@ -51,9 +51,9 @@ fn task_text(alloc: Global, task: Task) -> Result<String, Memory> {
             drop(options);
             told
         }
-        Task::Config(file) => {
-            let told = config_text(alloc, &file);
-            drop(file);
+        Task::Config(source) => {
+            let told = config_text(alloc, &source);
+            drop(source);
             told
         }
         Task::Check(options) => {
@@ -61,22 +61,22 @@ fn task_text(alloc: Global, task: Task) -> Result<String, Memory> {
             drop(options);
             told
         }
-        Task::Explain(file) => {
-            let told = explain_text(alloc, &file);
-            drop(file);
+        Task::Explain(source) => {
+            let told = explain_text(alloc, &source);
+            drop(source);
             told
         }
     }
 }
 
-/// What `build` is asked for: its workers, and after them the bundle's file, if one is named.
+/// What `build` is asked for: its workers, and after them what the bundle is taken from.
 fn build_text(alloc: Global, options: &BuildOptions) -> Result<String, Memory> {
     let mut told = format!(in alloc; "build with {}", options.workers)?;
-    add_text(alloc, &mut told, "of", &options.file)?;
+    add_source(alloc, &mut told, "of", &options.source)?;
     Ok(told)
 }
 
-/// What `graph` is asked for: whether it is for Graphviz, and after that the bundle's file, if one is named.
+/// What `graph` is asked for: whether it is for Graphviz, and after that what the bundle is taken from.
 fn graph_text(alloc: Global, options: &GraphOptions) -> Result<String, Memory> {
     let mut told = String::from_str(
         alloc,
@@ -86,24 +86,14 @@ fn graph_text(alloc: Global, options: &GraphOptions) -> Result<String, Memory> {
             "graph"
         },
     )?;
-    add_text(alloc, &mut told, "of", &options.file)?;
+    add_source(alloc, &mut told, "of", &options.source)?;
     Ok(told)
 }
 
-/// What `pack` is asked for: its folder, and after it each option that is given, a build argument as its name and its value, and an image as its
-/// name and its file.
+/// What `pack` is asked for: its folder, and after it each option that is given.
 fn pack_text(alloc: Global, options: &PackOptions) -> Result<String, Memory> {
     let mut told = format!(in alloc; "pack of [{}]", options.folder.as_str())?;
-    add_text(alloc, &mut told, "file", &options.file)?;
-    add_text(alloc, &mut told, "target", &options.target)?;
-    for (name, value) in options.args.as_slice() {
-        let (name, value) = (name.as_str(), value.as_str());
-        told.push_str(format!(in alloc; " arg [{name}] [{value}]")?.as_str())?;
-    }
-    for (name, file) in options.images.as_slice() {
-        let (name, file) = (name.as_str(), file.as_str());
-        told.push_str(format!(in alloc; " image [{name}] [{file}]")?.as_str())?;
-    }
+    add_choice(alloc, &mut told, &options.choice)?;
     add_text(alloc, &mut told, "output", &options.output)?;
     if options.apply_ignore {
         told.push_str(" without what is ignored")?;
@@ -114,18 +104,18 @@ fn pack_text(alloc: Global, options: &PackOptions) -> Result<String, Memory> {
     Ok(told)
 }
 
-/// What `why` is asked for: its paths, and after them the bundle's file, if one is named.
+/// What `why` is asked for: its paths, and after them what the bundle is taken from.
 fn why_text(alloc: Global, options: &WhyOptions) -> Result<String, Memory> {
     let mut told = String::from_str(alloc, "why")?;
     for path in options.paths.as_slice() {
         told.push_str(format!(in alloc; " [{}]", path.as_str())?.as_str())?;
     }
-    add_text(alloc, &mut told, "bundle", &options.file)?;
+    add_source(alloc, &mut told, "bundle", &options.source)?;
     Ok(told)
 }
 
 /// What `llb` is asked for: the three names of its platform, its network, the text that no other build has, and after them whether a merge is
-/// copies, whether only what is named is asked for, and the bundle's file, if one is named.
+/// copies, whether only what is named is asked for, and what the bundle is taken from.
 fn llb_text(alloc: Global, options: &LlbOptions) -> Result<String, Memory> {
     let os = options.platform.os.as_str();
     let architecture = options.platform.architecture.as_str();
@@ -142,7 +132,7 @@ fn llb_text(alloc: Global, options: &LlbOptions) -> Result<String, Memory> {
     if options.follow {
         told.push_str(" following")?;
     }
-    add_text(alloc, &mut told, "of", &options.file)?;
+    add_source(alloc, &mut told, "of", &options.source)?;
     Ok(told)
 }
 
@@ -155,27 +145,53 @@ fn network_text(network: NetworkName) -> &'static str {
 }
 
 /// What `config` is asked for.
-fn config_text(alloc: Global, file: &Option<Text>) -> Result<String, Memory> {
+fn config_text(alloc: Global, source: &Source) -> Result<String, Memory> {
     let mut told = String::from_str(alloc, "config")?;
-    add_text(alloc, &mut told, "of", file)?;
+    add_source(alloc, &mut told, "of", source)?;
     Ok(told)
 }
 
 /// What `explain` is asked for.
-fn explain_text(alloc: Global, file: &Option<Text>) -> Result<String, Memory> {
+fn explain_text(alloc: Global, source: &Source) -> Result<String, Memory> {
     let mut told = String::from_str(alloc, "explain")?;
-    add_text(alloc, &mut told, "of", file)?;
+    add_source(alloc, &mut told, "of", source)?;
     Ok(told)
 }
 
-/// What `check` is asked for: the bundle's file, if one is named, and whether lines of JSON are.
+/// What `check` is asked for: what the bundle is taken from, and whether lines of JSON are.
 fn check_text(alloc: Global, options: &CheckOptions) -> Result<String, Memory> {
     let mut told = String::from_str(alloc, "check")?;
-    add_text(alloc, &mut told, "of", &options.file)?;
+    add_source(alloc, &mut told, "of", &options.source)?;
     if options.json {
         told.push_str(" as JSON")?;
     }
     Ok(told)
+}
+
+/// What a bundle is taken from: its file or a folder, if one is named, and what is chosen of a folder.
+fn add_source(
+    alloc: Global,
+    told: &mut String,
+    name: &str,
+    source: &Source,
+) -> Result<(), Memory> {
+    add_text(alloc, told, name, &source.place)?;
+    add_choice(alloc, told, &source.choice)
+}
+
+/// What is chosen of a folder: a build argument as its name and its value, and an image as its name and its file.
+fn add_choice(alloc: Global, told: &mut String, choice: &Choice) -> Result<(), Memory> {
+    add_text(alloc, told, "file", &choice.file)?;
+    add_text(alloc, told, "target", &choice.target)?;
+    for (name, value) in choice.args.as_slice() {
+        let (name, value) = (name.as_str(), value.as_str());
+        told.push_str(format!(in alloc; " arg [{name}] [{value}]")?.as_str())?;
+    }
+    for (name, file) in choice.images.as_slice() {
+        let (name, file) = (name.as_str(), file.as_str());
+        told.push_str(format!(in alloc; " image [{name}] [{file}]")?.as_str())?;
+    }
+    Ok(())
 }
 
 fn add_text(

@@ -71,8 +71,6 @@ row 'a graph of a file for Graphviz' 0 "$dot" '' graph --dot "$work/bundle.json"
 row 'a graph for Graphviz of a file that does not exist' 3 '' "device failed: $work/missing does not exist" graph --dot "$work/missing"
 row 'a file that does not exist' 3 '' "device failed: $work/missing does not exist" build "$work/missing"
 row 'a graph of a file that does not exist' 3 '' "device failed: $work/missing does not exist" graph "$work/missing"
-row 'a folder in place of a file' 3 '' "device failed: $work is a folder" build "$work"
-row 'a graph of a folder' 3 '' "device failed: $work is a folder" graph "$work"
 row 'two files' 2 '' '*' build "$work/bundle.json" "$work/bundle.json"
 bundle 'RUN put /a hi'
 row 'a graph for Graphviz' 0 "$dot" '' graph --dot
@@ -105,7 +103,6 @@ none=$'bundle: R20: the input is no bundle: not JSON\n     | make it by dfsolve 
 row 'the fault of an empty bundle' 1 "$none" '' check
 row 'no fault in a file' 0 '' '' check "$work/bundle.json"
 row 'the faults of a file that does not exist' 3 '' "device failed: $work/missing does not exist" check "$work/missing"
-row 'the faults of a folder' 3 '' "device failed: $work is a folder" check "$work"
 row 'the faults of two files' 2 '' '*' check "$work/bundle.json" "$work/bundle.json"
 row 'help of check' 2 '*' '' check --help
 bundle 'RUN put /a hi'
@@ -263,6 +260,67 @@ printf 'n\n!n/k\n' >"$work/ignoring/.dockerignore"
 row 'a link in a folder that may hold an exception' 0 '*' '' pack "$work/ignoring" --apply-ignore
 printf '!n/link\n' >"$work/ignoring/.dockerignore"
 row 'a link that is kept' 3 '' "cannot pack: $work/ignoring/n/link is a link: leave it out by a line of the ignore file, or put what it leads to in its place" pack "$work/ignoring" --apply-ignore
+
+# a folder as the input of each command that reads a bundle: it answers what it does of the bundle that `pack` makes of the folder
+folder app
+printf 'FROM scratch AS one\nARG v\nCOPY kept /$v\nFROM base\nCOPY kept left /\n' >"$work/app/Dockerfile"
+printf 'left\n' >"$work/app/.dockerignore"
+printf 'hi' >"$work/app/kept"
+ln -s kept "$work/app/left"
+choice=(--image "base=$work/config.json")
+row 'a folder is built' 1 '{"cause":"F1","line":5,"result":"failed"}' '' build "$work/app" "${choice[@]}"
+row 'a stage of a folder is built with a build argument' 0 "$built" '' build "$work/app" "${choice[@]}" --target one --build-arg v=a --workers 1
+row 'a failure of a folder is explained' 1 $'Dockerfile:5: F1: a source isn\'t there: left\n    5 | COPY kept left /\n      | .dockerignore:1 leaves it out: left' '' explain "$work/app" "${choice[@]}"
+row 'a folder without a fault' 0 '' '' check "$work/app" "${choice[@]}"
+row 'the configuration of a folder' 0 "$config" '' config "$work/app" "${choice[@]}"
+row 'why paths of a folder are kept or left out' 0 '*' '' why --bundle "$work/app" "${choice[@]}" kept left
+"$program" pack "$work/app" "${choice[@]}" --apply-ignore >"$work/in"
+for words in build graph 'graph --dot' 'llb --unique u' config check explain 'why kept left'; do
+    of=("$work/app")
+    if [ "${words%% *}" = why ]; then
+        of=(--bundle "$work/app")
+    fi
+    status=0 out='*' err=''
+    "$program" $words <"$work/in" >"$work/said" 2>&1 || status=$?
+    want=$status status=0
+    "$program" $words "${of[@]}" "${choice[@]}" </dev/null >"$work/out" 2>"$work/err" || status=$?
+    if ! cmp -s "$work/said" "$work/out"; then
+        echo "$words: not the same of a folder and of its bundle" >&2
+        exit 1
+    fi
+    [ -s "$work/said" ] || out=''
+    judge "$words of a folder and of its bundle"
+done
+printf 'FROM scratch\nRUN put /a hi\n' >"$work/named.Dockerfile"
+row 'a Dockerfile that is named, of a folder' 0 "$built" '' build "$work/app" --file "$work/named.Dockerfile"
+
+# what goes with a folder stands beside no other bundle
+while read -r option value stands; do
+    row "$option beside a file" 2 '' "error: $option goes with a folder; $stands" build "$work/bundle.json" "$option" "$value"
+    row "$option beside standard input" 2 '' '*' check "$option" "$value"
+    row "$option beside a file, of why" 2 '' "error: $option goes with a folder; $stands" why --bundle "$work/bundle.json" "$option" "$value" a
+done <<'END'
+--file f the Dockerfile of a bundle stands in it
+--target t the target of a bundle stands in it
+--build-arg v=1 the build arguments of a bundle stand in it
+--image n=f the images of a bundle stand in it
+END
+row 'a target beside a file that does not exist' 3 '' "device failed: $work/missing does not exist" build "$work/missing" --target t
+
+# folders that have no bundle
+for words in build graph 'llb --unique u' config check explain; do
+    row "$words of a folder without a Dockerfile" 2 '' "no Dockerfile: $here/docs; --file names another" $words "$here/docs"
+    row "$words of a folder that does not exist" 3 '' "device failed: $work/missing does not exist" $words "$work/missing"
+done
+row 'an image of a folder that is missing' 3 '' "cannot pack: $work/missing does not exist, or is a link that leads to nothing: name what exists" check "$work/app" --image base="$work/missing"
+row 'a link in a folder that is built' 3 '' "cannot pack: $work/linked/link is a link: leave it out by a line of the ignore file, or put what it leads to in its place" build "$work/linked"
+row 'a pipe in a folder that is explained' 3 '' "cannot pack: $work/piped/pipe is neither a file nor a folder: leave it out by a line of the ignore file, or remove it" explain "$work/piped"
+row 'a link in a folder that is checked' 0 '' "warning: passed over, since neither a file nor a folder: $work/linked/link" check "$work/linked"
+folder big
+truncate -s 41943040 "$work/big/f"
+size=$(($("$program" pack "$work/big" | wc -c) - 1))
+row 'a folder that is too large' 3 '' "cannot pack: $work/big: its bundle has $size bytes, and a bundle has at most 67108864: leave files out by a line of .dockerignore" build "$work/big"
+row 'a folder that is too large, by names alone' 0 '' '' check "$work/big"
 
 if [ "$(id -u)" != 0 ]; then
     folder secret

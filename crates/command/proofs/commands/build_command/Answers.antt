@@ -1,10 +1,10 @@
 use Rattle.std.proofs.Common.{codes}
 use Rattle.clap.specs.Words.{new_app, with_rule}
-use Rattle.command.specs.CommandLine.{bundle_argument, workers_option}
+use Rattle.command.specs.CommandLine.{workers_option}
 use Rattle.command.proofs.commands.build_command.Goals as goal
 
 pub returns-clause-app : goal.returns-clause-app
-returns-clause-app c = c.with_argument.ensures.app (with_rule (new_app (codes "build")) workers_option) bundle_argument (c.with_argument-command.ensures.app (new_app (codes "build")) workers_option c.described-command.ensures.app c.workers_option.ensures.rule) c.bundle_argument.ensures.rule
+returns-clause-app c = c.with_source.ensures.app (with_rule (new_app (codes "build")) workers_option) (c.with_argument-command.ensures.app (new_app (codes "build")) workers_option c.described-command.ensures.app c.workers_option.ensures.rule)
 
 pub returns-clause-local : goal.returns-clause-local
-returns-clause-local c = c.with_argument.ensures.local (c.with_argument-command.ensures.local c.described-command.ensures.local)
+returns-clause-local c = c.with_source.ensures.local (c.with_argument-command.ensures.local c.described-command.ensures.local)

@@ -1,5 +1,5 @@
 use Rattle.std.proofs.Common.{◌≡◌, map, take}
-use Rattle.command.specs.Tasks.{halves_of}
+use Rattle.command.specs.Sources.{halves_of}
 use Rattle.command.proofs.reading.cut_texts.Given as goal
 
 -- the texts so far are cut

@@ -1,6 +1,6 @@
 use Rattle.std.proofs.Common.{◌≡◌, drop}
 use Rattle.std.specs.List.{list_all}
-use Rattle.command.specs.Tasks.{has_equals}
+use Rattle.command.specs.Sources.{has_equals}
 use Rattle.command.proofs.reading.have_equals.Given as goal
 
 -- the texts that are left decide

@@ -2,7 +2,7 @@ use Rattle.std.proofs.Common.{◌≡◌, ◌∙◌, Some, false, true, ap, rules
 use Rattle.std.specs.List.{list_all}
 use Rattle.clap.specs.Walk.{all_of}
 use Rattle.clap.specs.Words.{found_of, rows_of}
-use Rattle.command.specs.Tasks.{has_equals}
+use Rattle.command.specs.Sources.{has_equals}
 use Rattle.command.proofs.Arguments.{bare_lent, cut_lent}
 use Rattle.command.proofs.reading.pairs_of.Goals as goal
 
