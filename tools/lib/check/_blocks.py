@@ -1,23 +1,27 @@
 """The commands of the pages: each block of them is run, and what it prints is what the page says.
 
-A block `console` has commands, each after `$ `, and below each one what it prints. A block `sh` has commands whose
-output the page doesn't say; they have to end well. What names `./run` or `examples/` runs where `examples/` is, any
-other block `console` in an empty folder, and `sh` in one with a Dockerfile, beside a bundle. A block `dockerfile` right
-before one is the file `Dockerfile` there. `./run` and `dfsolve` are the program that is tried; `buildctl` and `dot` read
-what they are given and do nothing.
+A block `console` has commands, each after `$ `, and below each one what it prints; a line `...` there stands for any
+lines. A block `sh` has commands whose output the page doesn't say; they have to end well. What names `./run` or
+`examples/` runs where a copy of `examples/` is, any other block `console` in an empty folder, and `sh` in one with a
+Dockerfile, beside a bundle. A command `cd` holds for the rest of its block. A block `dockerfile` right before one is the
+file `Dockerfile` there. `./run` and `dfsolve` are the program that is tried; `buildctl` and `dot` read what they are
+given and do nothing.
 """
 import itertools
 import os
 import re
+import shutil
 import subprocess
 import tempfile
 from typing import NamedTuple
 
+from check import _teams
 from common import TOP
 from docs.manual import commands as program_commands
 
 FENCE = re.compile(r"^```(\S*)$")
 PROMPT = "$ "
+LINES_LEFT_OUT = "...\n"
 # blocks that aren't run, by the page and a word of the block, and why
 NOT_RUN = {
     ("docs/BUILDKIT.md", "docker image inspect"): "it needs a daemon with an image",
@@ -93,7 +97,8 @@ class Place:
         for name, text in {"dfsolve": started, **{name: f"#!/bin/sh\n{text}\n" for name, text in STUBS.items()}}.items():
             put(f"{folder}/bin/{name}", text)
         put(f"{self.top}/run", started)
-        os.symlink(f"{TOP}/examples", f"{self.top}/examples")
+        shutil.copytree(f"{TOP}/examples", f"{self.top}/examples", symlinks=True)
+        _teams.fill(f"{self.top}/examples/teams")
         self.environment = {**os.environ, "PATH": f"{folder}/bin:{os.environ['PATH']}", "DFSOLVE": self.top, "LC_ALL": "C"}
 
     def run(self, block):
@@ -106,6 +111,9 @@ class Place:
             put(f"{at}/../bundle.json", '{"dockerfile":{"text":"FROM scratch"}}', 0o644)
         strict = ["-e", "-o", "pipefail"] if block.kind == "sh" else []
         for command, wanted in commands_of(block):
+            if wanted is not None and command.startswith("cd "):
+                at = os.path.join(at, command[len("cd ") :].strip())
+                continue
             ran = subprocess.run(
                 ["bash", *strict, "-c", command],
                 cwd=at,
@@ -116,6 +124,12 @@ class Place:
                 check=False,
             )
             yield command, wanted, ran.stdout.decode(errors="replace"), ran.returncode
+
+
+def is_said(printed, wanted):
+    """Whether this was printed."""
+    lines = ("(?:.*\n)*" if line == LINES_LEFT_OUT else re.escape(line) for line in wanted.splitlines(keepends=True))
+    return re.fullmatch("".join(lines), printed) is not None
 
 
 def put(path, text, mode=0o755):
@@ -156,7 +170,7 @@ def check(program):
                     continue
                 for command, wanted, printed, status in place.run(block):
                     count += 1
-                    if wanted is None and status != 0 or wanted is not None and wanted != printed:
+                    if wanted is None and status != 0 or wanted is not None and not is_said(printed, wanted):
                         wrong.append(f"{page}:{block.at}: {command.strip()}\n    ends with {status} and prints\n{printed}")
     wrong += [f"{page} has no block with {word}, which isn't run" for page, word in left]
     return wrong, count

@@ -1,0 +1,5 @@
+package main
+
+var version string
+
+func main() { println("api", version) }
