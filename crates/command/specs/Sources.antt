@@ -22,10 +22,11 @@ all_texts id rows = unwrap_or (all_of id rows) []
 abbrev pub pairs_of : Text → List Row → Option (List (Text × Text))
 pairs_of id rows = if list_all has_equals (all_texts id rows) then Some (map halves_of (all_texts id rows)) else None
 
--- the build arguments, each a name and a value, and the images, each a name and a file (own)
+-- the build arguments, each a name and a value (own)
 abbrev pub arguments_of : List Row → Option (List (Text × Text))
 arguments_of rows = pairs_of (codes "build-arg") rows
 
+-- the images, each a name and a file (own)
 abbrev pub images_of : List Row → Option (List (Text × Text))
 images_of rows = pairs_of (codes "image") rows
 
@@ -37,6 +38,7 @@ choice_with rows args images = record { file = first_of (codes "file") rows; tar
 abbrev pub choice_by : List Row → Option (List (Text × Text)) → Option (List (Text × Text)) → Option Choice
 choice_by rows args images = option_and_then (λ args. option_map (choice_with rows args) images) args
 
+-- what is chosen of a folder by the matches (own)
 abbrev pub choice_of : List Row → Option Choice
 choice_of rows = choice_by rows (arguments_of rows) (images_of rows)
 

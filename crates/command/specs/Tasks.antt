@@ -38,6 +38,7 @@ pub record IsBuild (rows : List Row) (options : BuildOptions) : Type 0 where
 abbrev pub graph_with : List Row → Source → GraphOptions
 graph_with rows source = record { source = source; dot = is_set (codes "dot") rows }
 
+-- what `graph` is asked for by the matches (own)
 abbrev pub graph_of : List Row → Option GraphOptions
 graph_of rows = option_map (graph_with rows) (source_of (codes "FILE") rows)
 
@@ -55,6 +56,7 @@ pack_with rows folder choice = record {
 abbrev pub pack_by : List Row → Option Text → Option Choice → Option PackOptions
 pack_by rows folder choice = option_and_then (λ folder. option_map (pack_with rows folder) choice) folder
 
+-- what `pack` is asked for by the matches (own)
 abbrev pub pack_of : List Row → Option PackOptions
 pack_of rows = pack_by rows (first_of (codes "DIR") rows) (choice_of rows)
 
@@ -66,6 +68,7 @@ paths_of rows = all_texts (codes "PATH") rows
 abbrev pub why_with : List Row → Source → WhyOptions
 why_with rows source = record { source = source; paths = paths_of rows }
 
+-- what `why` is asked for by the matches (own)
 abbrev pub why_of : List Row → Option WhyOptions
 why_of rows = option_map (why_with rows) (source_of (codes "bundle") rows)
 
@@ -73,6 +76,7 @@ why_of rows = option_map (why_with rows) (source_of (codes "bundle") rows)
 abbrev pub check_with : List Row → Source → CheckOptions
 check_with rows source = record { source = source; json = is_set (codes "json") rows }
 
+-- what `check` is asked for by the matches (own)
 abbrev pub check_of : List Row → Option CheckOptions
 check_of rows = option_map (check_with rows) (source_of (codes "FILE") rows)
 

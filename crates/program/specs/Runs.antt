@@ -44,6 +44,7 @@ pub record Streams : Type 0 where
   pub devices : Devices
   pub errors : Stream
 
+-- these devices and this writer for errors (own)
 abbrev pub streams : Devices → Stream → Streams
 streams devices errors = record { devices = devices; errors = errors }
 
@@ -153,6 +154,7 @@ SaysNoBundle (Ok (Some text)) old new status = (most_bundle_bytes < length text)
 SaysNoBundle (Ok None) old new status = SaysPack (Ok Refused) old new × (status ≡ 2)
 SaysNoBundle (Err fault) old new status = SaysPack (Err fault) old new × (status ≡ 3)
 
+-- a folder gave no bundle for what is asked, and it is said why (own)
 pub record HasNoBundle (asked : Asked) (old new : Stream) (status : ℕ) : Type 0 where
   pub packed : Result (Option (List ℕ)) PackFault
   pub packs : PacksText asked packed

@@ -8,6 +8,7 @@ pub record Stream : Type 0 where
   pub written : Option (List ℕ)
   pub failed : ℕ
 
+-- a writer on which so much was written and so many calls failed (own)
 abbrev pub stream : Option (List ℕ) → ℕ → Stream
 stream written failed = record { written = written; failed = failed }
 
