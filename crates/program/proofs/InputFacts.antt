@@ -48,17 +48,19 @@ pub called_file : (place : Option (List ℕ)) (choice : Choice) (packing : Packi
     → CallsBy place choice packing EndsSo (streams old said) (streams new said_then) status
 called_file place choice packing EndsSo left left_then failed failed_then old new said mid said_then ended status name of named quiet unread unfailed ends says is =
     let said_so = subst (λ n. SaysFileEnd n ended mid said_then) (named ∙ ap (λ (p : Option (List ℕ)). unwrap_or p []) of.is) says in
-    subst (λ p. CallsBy p choice packing EndsSo (streams old said) (streams new said_then) status) (sym of.is)
-    (record { left = unread; failed_reads = unfailed }, inl (record {
-      free = of.free;
-      left = left;
-      left_then = left_then;
-      failed_reads = failed_then;
-      ended = ended;
-      ends = subst (λ n. EndsSo (devices left n old.written old.failed_writes) (devices left_then failed_then new.written new.failed_writes) ended) of.none ends;
-      says = subst (λ s. SaysFileEnd of.name ended s said_then) quiet said_so;
-      is = is;
-    }))
+    subst (λ p. CallsBy p choice packing EndsSo (streams old said) (streams new said_then) status) (sym of.is) (
+      record { left = unread; failed_reads = unfailed },
+      inl (record {
+        free = of.free;
+        left = left;
+        left_then = left_then;
+        failed_reads = failed_then;
+        ended = ended;
+        ends = subst (λ n. EndsSo (devices left n old.written old.failed_writes) (devices left_then failed_then new.written new.failed_writes) ended) of.none ends;
+        says = subst (λ s. SaysFileEnd of.name ended s said_then) quiet said_so;
+        is = is;
+      }),
+    )
 
 -- on the bundle of a folder
 pub called_folder : (place : Option (List ℕ)) (choice : Choice) (packing : Packing) (EndsSo : EndsSoType) (text left : List ℕ) (left_then : Option (List ℕ))
@@ -69,17 +71,19 @@ pub called_folder : (place : Option (List ℕ)) (choice : Choice) (packing : Pac
     → SaysAfterNotes (end_text ended) mid said_then → status ≡ exit_status ended
     → CallsBy place choice packing EndsSo (streams old said) (streams new said_then) status
 called_folder place choice packing EndsSo text left left_then old new said mid said_then ended status opened is_text quiet unread unfailed ends says is =
-    subst (λ p. CallsBy p choice packing EndsSo (streams old said) (streams new said_then) status) (sym opened.0.1)
-    (record { left = unread; failed_reads = unfailed }, inr (inl (record {
-      text = text;
-      packs = opened.1.packs;
-      short = opened.1.short;
-      left_then = left_then;
-      ended = ended;
-      ends = subst (λ bytes. EndsSo (devices (Some bytes) 0 old.written old.failed_writes) (devices left_then 0 new.written new.failed_writes) ended) is_text ends;
-      says = subst (λ s. SaysAfterNotes (end_text ended) s said_then) quiet says;
-      is = is;
-    })))
+    subst (λ p. CallsBy p choice packing EndsSo (streams old said) (streams new said_then) status) (sym opened.0.1) (
+      record { left = unread; failed_reads = unfailed },
+      inr (inl (record {
+        text = text;
+        packs = opened.1.packs;
+        short = opened.1.short;
+        left_then = left_then;
+        ended = ended;
+        ends = subst (λ bytes. EndsSo (devices (Some bytes) 0 old.written old.failed_writes) (devices left_then 0 new.written new.failed_writes) ended) is_text ends;
+        says = subst (λ s. SaysAfterNotes (end_text ended) s said_then) quiet says;
+        is = is;
+      })),
+    )
 
 -- on nothing
 pub called_none : (place : Option (List ℕ)) (choice : Choice) (packing : Packing) (EndsSo : EndsSoType) (old new : Devices) (said said_then : Stream) (status : ℕ)

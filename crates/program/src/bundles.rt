@@ -31,9 +31,7 @@ use crate::telling::{Teller, tell_bundle};
 use crate::why::PathTeller;
 use build::{Remains, Status, run_build_keeping, run_graph};
 use checks::Form;
-use command::{
-    BuildOptions, CheckOptions, Choice, GraphOptions, LlbOptions, Source, WhyOptions,
-};
+use command::{BuildOptions, CheckOptions, Choice, GraphOptions, LlbOptions, Source, WhyOptions};
 use counted::{CountedRead, CountedWrite};
 use executor::Executor;
 use memo::Memo;
@@ -165,7 +163,18 @@ pub(crate) fn draw_bundle<
     let source = &options.source;
     if options.dot {
         let teller = &PictureTeller;
-        tell_by(alloc, keys, rt, files, source, Packing::KeptNames, teller, input, output, errors)
+        tell_by(
+            alloc,
+            keys,
+            rt,
+            files,
+            source,
+            Packing::KeptNames,
+            teller,
+            input,
+            output,
+            errors,
+        )
     } else {
         graph_bundle(alloc, keys, rt, files, source, input, output, errors)
     }
@@ -263,7 +272,18 @@ pub(crate) fn explain_paths<
         paths: options.paths.as_slice(),
     };
     let source = &options.source;
-    tell_by(alloc, keys, rt, files, source, Packing::KeptNames, &teller, input, output, errors)
+    tell_by(
+        alloc,
+        keys,
+        rt,
+        files,
+        source,
+        Packing::KeptNames,
+        &teller,
+        input,
+        output,
+        errors,
+    )
 }
 
 /// Writes the graph of a bundle for BuildKit, and gives the status to end with.
@@ -293,7 +313,18 @@ pub(crate) fn export_bundle<
 {
     let teller = DefinitionTeller { options };
     let source = &options.source;
-    tell_by(alloc, keys, rt, files, source, Packing::AllNames, &teller, input, output, errors)
+    tell_by(
+        alloc,
+        keys,
+        rt,
+        files,
+        source,
+        Packing::AllNames,
+        &teller,
+        input,
+        output,
+        errors,
+    )
 }
 
 /// Prints the configuration of a bundle's target, and gives the status to end with.
@@ -322,7 +353,18 @@ pub(crate) fn tell_config<
     ensures taken { LosesBeginning (most_bundle_bytes + 1) (R.remaining input.old) (R.remaining input.new) }
 {
     let teller = &ConfigTeller;
-    tell_by(alloc, keys, rt, files, source, Packing::KeptNames, teller, input, output, errors)
+    tell_by(
+        alloc,
+        keys,
+        rt,
+        files,
+        source,
+        Packing::KeptNames,
+        teller,
+        input,
+        output,
+        errors,
+    )
 }
 
 /// Prints all faults of a bundle, and gives the status to end with.
@@ -355,7 +397,18 @@ pub(crate) fn check_bundle<
         file: file_shown(&source.choice),
         form: form_by(options.json),
     };
-    tell_by(alloc, keys, rt, files, source, Packing::KeptNames, &teller, input, output, errors)
+    tell_by(
+        alloc,
+        keys,
+        rt,
+        files,
+        source,
+        Packing::KeptNames,
+        &teller,
+        input,
+        output,
+        errors,
+    )
 }
 
 /// What positions call the Dockerfile.

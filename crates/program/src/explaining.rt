@@ -117,15 +117,7 @@ fn tell_explained<E: Executor>(
 ) -> Result<Told, Memory>
     ensures { IfOk result (λ told. Explains file.now (E.out executor.now) bundle.now told.status told.text) }
 {
-    let Explained { status, text } = explain(
-        alloc,
-        keys,
-        rt,
-        file,
-        bundle,
-        executor,
-        WORKERS,
-    )?;
+    let Explained { status, text } = explain(alloc, keys, rt, file, bundle, executor, WORKERS)?;
     Ok(Told {
         status,
         text: Bytes::from_vec(text.into_string(alloc)?.into_bytes()),

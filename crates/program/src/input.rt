@@ -16,12 +16,11 @@ use packing::{PackOptions, packed_text};
 use plain::Text;
 use plain::limits::MOST_BUNDLE_BYTES;
 use std::alloc::{AllocError, Global};
-use std::fs;
 use std::fs::File;
 use std::hash::RandomState;
-use std::io;
 use std::io::{ErrorKind, Read};
 use std::rt::Files;
+use std::{fs, io};
 
 /// The status after words that ask for what can't be.
 const BAD_COMMAND: u8 = 2;
@@ -249,12 +248,7 @@ fn open_folder<F: Files + AllocGlobal + Clone + Drop, S: CountedWrite>(
             let folder = FolderText { text, notes };
             fitting(alloc, errors, name, folder, MOST_BUNDLE_BYTES)
         }
-        Ok(None) => Err(finish_pack(
-            alloc,
-            errors,
-            Ok(Status::Refused),
-            notes.as_str(),
-        )),
+        Ok(None) => Err(finish_pack(alloc, errors, Ok(Status::Refused), notes.as_str())),
         Err(fault) => Err(finish_pack(alloc, errors, Err(fault), notes.as_str())),
     }
 }

@@ -148,12 +148,7 @@ fn pack<F: Files + AllocGlobal + Clone + Drop, W: CountedWrite, S: CountedWrite>
         (stream (S.contents errors.old) (S.failures errors.old)) (stream (S.contents errors.new) (S.failures errors.new)) result }
 {
     let folder = options.folder.as_str();
-    let given = options_of(
-        &options.choice,
-        options.apply_ignore,
-        options.names,
-        false,
-    );
+    let given = options_of(&options.choice, options.apply_ignore, options.names, false);
     let mut why = Text::from_string(String::new(alloc));
     let ended = match &options.output {
         Some(name) => run_pack_to_file(alloc, keys, files, folder, given, name.as_str(), &mut why),

@@ -4,8 +4,8 @@
 use crate::reading::after_name;
 use clap::Error;
 use command::{
-    BuildOptions, CheckOptions, Choice, GraphOptions, LlbOptions, MergeName,
-    NetworkName, PackOptions, Source, Task, WhyOptions, read_command,
+    BuildOptions, CheckOptions, Choice, GraphOptions, LlbOptions, MergeName, NetworkName,
+    PackOptions, Source, Task, WhyOptions, read_command,
 };
 use plain::{Memory, Text};
 use std::alloc::Global;
@@ -169,12 +169,7 @@ fn check_text(alloc: Global, options: &CheckOptions) -> Result<String, Memory> {
 }
 
 /// What a bundle is taken from: its file or a folder, if one is named, and what is chosen of a folder.
-fn add_source(
-    alloc: Global,
-    told: &mut String,
-    name: &str,
-    source: &Source,
-) -> Result<(), Memory> {
+fn add_source(alloc: Global, told: &mut String, name: &str, source: &Source) -> Result<(), Memory> {
     add_text(alloc, told, name, &source.place)?;
     add_choice(alloc, told, &source.choice)
 }

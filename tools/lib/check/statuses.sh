@@ -275,7 +275,7 @@ row 'a folder without a fault' 0 '' '' check "$work/app" "${choice[@]}"
 row 'the configuration of a folder' 0 "$config" '' config "$work/app" "${choice[@]}"
 row 'why paths of a folder are kept or left out' 0 '*' '' why --bundle "$work/app" "${choice[@]}" kept left
 "$program" pack "$work/app" "${choice[@]}" --apply-ignore >"$work/in"
-for words in build graph 'graph --dot' 'llb --unique u' config check explain 'why kept left'; do
+for words in build graph 'graph --dot' config check explain 'why kept left'; do
     of=("$work/app")
     if [ "${words%% *}" = why ]; then
         of=(--bundle "$work/app")
@@ -291,6 +291,17 @@ for words in build graph 'graph --dot' 'llb --unique u' config check explain 'wh
     [ -s "$work/said" ] || out=''
     judge "$words of a folder and of its bundle"
 done
+# what the ignore file leaves out is named in a definition for BuildKit, which is given the folder itself
+folder told
+printf 'FROM scratch\nCOPY . /x\n' >"$work/told/Dockerfile"
+printf 'left\n' >"$work/told/.dockerignore"
+: >"$work/told/left"
+"$program" pack "$work/told" --names | "$program" llb --unique u >"$work/said"
+"$program" llb --unique u "$work/told" >"$work/out"
+if ! cmp -s "$work/said" "$work/out" || ! grep -q '\["left"\]' "$work/said"; then
+    echo 'a definition of a folder does not say what is left out' >&2
+    exit 1
+fi
 printf 'FROM scratch\nRUN put /a hi\n' >"$work/named.Dockerfile"
 row 'a Dockerfile that is named, of a folder' 0 "$built" '' build "$work/app" --file "$work/named.Dockerfile"
 
