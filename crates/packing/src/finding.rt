@@ -319,6 +319,10 @@ fn read_ignore_file<R: Files + AllocGlobal>(
 ) -> Result<Option<IgnoreFile>, PackFault>
     ensures { IfErr result IsBefore }
 {
+    // The words name the Dockerfile, and not what a link beside it leads to.
+    if is_own && is_link(rt, name.as_str()) {
+        return Err(refuse(alloc, notes, name.as_str(), NO_PLAIN_FILE));
+    }
     match read_file(rt, alloc, name.as_str(), notes) {
         Ok(Some(bytes)) => Ok(Some(IgnoreFile { name, bytes })),
         // If what has the name were passed over, files that it is meant to leave out would be packed.
@@ -359,6 +363,14 @@ pub(crate) fn bytes_of<R: Files + AllocGlobal>(
     match fs::read(rt, name) {
         Ok(bytes) => Ok(Bytes::from_vec(bytes)),
         Err(error) => Err(refuse_error(alloc, notes, name, &error)),
+    }
+}
+
+/// Whether a link has a name.
+fn is_link<R: Files>(rt: &R, name: &str) -> bool {
+    match fs::symlink_metadata(rt, name) {
+        Ok(found) => found.is_symlink(),
+        Err(_) => false,
     }
 }
 
