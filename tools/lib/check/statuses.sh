@@ -260,6 +260,15 @@ printf 'n\n!n/k\n' >"$work/ignoring/.dockerignore"
 row 'a link in a folder that may hold an exception' 0 '*' '' pack "$work/ignoring" --apply-ignore
 printf '!n/link\n' >"$work/ignoring/.dockerignore"
 row 'a link that is kept' 3 '' "cannot pack: $work/ignoring/n/link is a link: leave it out by a line of the ignore file, or put what it leads to in its place" pack "$work/ignoring" --apply-ignore
+folder astray
+printf 'x\n' >"$work/outside"
+ln -s ../outside "$work/astray/.dockerignore"
+row 'an ignore file that is a link' 3 '' "cannot pack: $work/astray/.dockerignore is a link: leave it out by a line of the ignore file, or put what it leads to in its place" check "$work/astray"
+row 'an ignore file that is a link, and paths' 3 '' "cannot pack: $work/astray/.dockerignore is a link: leave it out by a line of the ignore file, or put what it leads to in its place" why --bundle "$work/astray" x
+rm "$work/astray/.dockerignore"
+cp "$work/astray/Dockerfile" "$work/astray/F"
+ln -s ../outside "$work/astray/F.dockerignore"
+row 'an own ignore file that is a link' 3 '' "cannot pack: $work/astray/F.dockerignore is no file: put a file in its place, or rename it" pack "$work/astray" --file "$work/astray/F" --apply-ignore
 
 # a folder as the input of each command that reads a bundle: it answers what it does of the bundle that `pack` makes of the folder
 folder app
