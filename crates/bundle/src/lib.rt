@@ -9,7 +9,7 @@
 // `refused_text` in specs/Answer.antt, the texts of the answers.
 //
 // ```
-// let bundle: Bundle<Config> = read_bundle(alloc, rt, bytes)?;    // of {"dockerfile":{"text":"FROM scratch\nRUN true\n"}}
+// let bundle: Bundle<Config> = read_bundle(alloc, keys, rt, bytes)?;    // of {"dockerfile":{"text":"FROM scratch\nRUN true\n"}}
 // ```
 #![tactic(auto)]
 

@@ -14,8 +14,8 @@
 // Heavy values are dropped by name where a function ends early: the prover then meets a call, and doesn't walk the value at each end.
 //
 // ```
-// let made = evaluate(alloc, table, images, context, &args)?;
-// made.rows                              // a row for each stage, `None` for one that isn't needed
+// let made = evaluate(alloc, keys, table, images, context, &args)?;
+// made.rows                                    // a row for each stage, `None` for one that isn't needed
 // ```
 #![tactic(auto)]
 

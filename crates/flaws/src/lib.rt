@@ -7,7 +7,7 @@
 // The central definition is `flaw_in` in specs/Flaws.antt, and the law `a_bundle_has_no_flaw` ties it to the bundles that are read.
 //
 // ```
-// let flaw = find::<Config>(alloc, bytes)?;        // of {"dockerfile":{"text":""},"context":[{"path":"/a","text":"","mode":"rw"}]}
+// let flaw = find::<Config>(alloc, keys, bytes)?;  // of {"dockerfile":{"text":""},"context":[{"path":"/a","text":"","mode":"rw"}]}
 // place_text(alloc, &flaw)?                        // .context[0].mode
 // ```
 #![tactic(auto)]

@@ -7,7 +7,7 @@
 // alone that leaves a path out (specs/Leaving.antt).
 //
 // ```
-// let text = reasons::<Config>(alloc, rt, bundle, &paths)?;    // left out    a/x.o    .dockerignore:2:*.o
+// let text = reasons::<Config>(alloc, keys, rt, bundle, &paths)?;    // left out    a/x.o    .dockerignore:2:*.o
 // ```
 #![tactic(auto)]
 

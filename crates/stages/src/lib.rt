@@ -7,9 +7,9 @@
 // refusal, the least of all that are due (specs/Refusals.antt, `laws`). `IsNeeded` in specs/Needed.antt says which stages a target needs.
 //
 // ```
-// let table = StageTable::resolve(alloc, file, &images, &args, None)?;     // FROM scratch AS a; FROM scratch; COPY --from=a /x /x
-// table.target()                                                           // 1
-// table.needed(alloc)?                                                     // both stages
+// let table = StageTable::resolve(alloc, keys, file, &images, &args, None)?;     // FROM scratch AS a; FROM scratch; COPY --from=a /x /x
+// table.target()                                                                 // 1
+// table.needed(alloc)?                                                           // both stages
 // ```
 #![tactic(auto)]
 
