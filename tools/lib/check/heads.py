@@ -21,8 +21,6 @@ DEFINED = re.compile(r"^(?:(?:impl|trait|pub trait)\b(?P<owner>.*)|.*?\bfn (?P<n
 OWNER = re.compile(r"(?:.* for )?\s*(?:<.*?>\s*)?(?:\w+::)*(\w+)")
 SELF = re.compile(r"(?:&(?:'\w+ )?)?(?:mut )?self\b")
 OPEN, CLOSE = "([{", ")]}"
-# stale already when this was written: a changed comment proves its crate again, so each waits for a change of its crate
-STALE = {"bundle", "evaluation", "flaws", "imageconfig", "reasons", "stages"}
 
 
 def values(text, begin):
@@ -122,14 +120,11 @@ def wrong_calls(blocks, own, lower):
 def main(_words):
     listed = crates()
     tables = {crate: definitions(crate) for crate in listed}
-    wrong, stale, count = 0, [], 0
+    wrong, count = 0, 0
     for crate, libraries in listed.items():
         lower = [it for name in below(libraries, listed, []) for it in tables[name]]
         faults = [*wrong_calls(examples(crate), tables[crate], lower)]
         count += len(examples(crate))
-        if faults and crate in STALE:
-            stale.append(crate)
-            continue
         wrong += len(faults)
         for why in faults:
             print(f"{os.path.relpath(CRATES, TOP)}/{crate}: {why}")
@@ -140,5 +135,5 @@ def main(_words):
         for why in wrong_calls(blocks, everything, []):
             wrong += 1
             print(f"{page}: {why}")
-    print(f"{count} examples, {wrong} calls of them wrong" + (f"; known to be stale: {', '.join(stale)}" if stale else ""))
+    print(f"{count} examples, {wrong} calls of them wrong")
     return 1 if wrong else 0
