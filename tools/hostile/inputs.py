@@ -44,9 +44,8 @@ class Seeds:
     def __init__(self, paths):
         examples = os.path.join(TOP, "examples")
         self.bundles = []
-        for name in sorted(os.listdir(examples)):
-            at = os.path.join(examples, name)
-            if os.path.isdir(at):
+        for at, _, names in sorted(os.walk(examples)):
+            if "Dockerfile" in names:
                 self.bundles.append(packed(at))
         for at in [*(os.path.join(examples, name) for name in sorted(os.listdir(examples)) if name.endswith(".json")), *(it for path in paths for it in files_below(path))]:
             with open(at, "rb") as it:
