@@ -83,15 +83,17 @@ fn without_carriage_return(line: &str) -> &str
     &line[..line.len() - 1]
 }
 
-/// Whether a logical line goes on after this line of it.
-fn goes_on(escape: Escape, line: &str) -> bool
+/// Whether a logical line goes on after this line of it: the line is blank, a comment, or ends in the escape character, which isn't
+/// escaped itself (Dockerfile reference, `escape`).
+pub fn goes_on(escape: Escape, line: &str) -> bool
     ensures { result ≡ goes_on (byte_of escape) line.now }
 {
     is_skipped(line) || continued_part(escape, line).is_some()
 }
 
-/// What a line adds to its logical line.
-fn part_of(escape: Escape, line: &str) -> &str
+/// What a line adds to its logical line: nothing where it is blank or a comment, what stands before the escape character where it goes
+/// on, and else all of it.
+pub fn part_of(escape: Escape, line: &str) -> &str
     ensures { result.now ≡ part_of (byte_of escape) line.now }
 {
     if is_skipped(line) {

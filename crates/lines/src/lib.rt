@@ -34,6 +34,7 @@ mod steps;
 mod text;
 mod written_mark;
 
+pub use blocks::{goes_on, part_of};
 pub use escape::Escape;
 pub use fault::LineFault;
 pub use line::{Heredoc, Line, Mark};

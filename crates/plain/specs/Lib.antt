@@ -5,3 +5,5 @@ pub mod Marks
 pub mod PrivateHeld
 pub mod PrivateMarks
 pub mod PrivateShared
+pub mod Variable
+pub mod VariableName

@@ -1,6 +1,6 @@
 // The plain data that every crate above speaks in: lists, bytes, one type of text, the one error for want of memory and the one
 // type of why a call gives no answer, and small values that several crates share: a refusal's `Code`, the `Sharing` of a cache mount,
-// a `Variable`, the `Variables` of an environment, an `Owner`, a `Mode`, and the limits of the rules.
+// a `Variable` and its name, the `Variables` of an environment, an `Owner`, a `Mode`, and the limits of the rules.
 //
 // Contracts see a list as a list, and bytes and text as lists of numbers: `Items<T>`, `Bytes` and `Text` show no capacity and no
 // pointer, as std's `Vec` and `String` do. So a struct or an enum made of them is, in a contract, the very data that a definition
@@ -33,6 +33,7 @@ mod refusal;
 mod sharing;
 mod text;
 mod variable;
+mod variable_name;
 mod variables;
 
 pub use bytes::Bytes;
@@ -48,4 +49,5 @@ pub use refusal::{Code, Refusal};
 pub use sharing::Sharing;
 pub use text::Text;
 pub use variable::Variable;
+pub use variable_name::VariableName;
 pub use variables::Variables;

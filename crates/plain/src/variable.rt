@@ -1,10 +1,10 @@
-use crate::{Exact, Memory, Text};
+use crate::{Exact, Memory, Text, VariableName};
 use std::alloc::Global;
 
 /// A variable of an environment: its name and the value that it has.
 #[derive(Debug, Drop)]
 pub struct Variable {
-    pub name: Text,
+    pub name: VariableName,
     pub value: Text,
 }
 

@@ -2,6 +2,7 @@ ghost use Rattle.std.specs.Prelude.{◌≡◌, [], IfOk, fold};
 ghost use Rattle.std.specs.Hash.{slice};
 ghost use Rattle.std.specs.Hash.DefaultHasher as sip;
 ghost use Rattle.plain.specs.Hash.{variable_writes, variables_hash};
+ghost use Rattle.plain.specs.Variable.{HaveNames};
 
 use crate::items::same_items;
 use crate::{Exact, Memory, Variable};
@@ -21,6 +22,7 @@ impl Model for Hashed {
     ghost use Rattle.std.specs.Prelude.{◌≡◌, List};
     ghost use Rattle.std.specs.Coded.{coded_list};
     ghost use Rattle.plain.specs.Hash.{variables_hash};
+    ghost use Rattle.plain.specs.Variable.{HaveNames};
     ghost use Rattle.plain.specs.declared.variable.Variable.{Variable};
     ghost use Rattle.plain.specs.contracts.variable.Variable as variable_row;
 
@@ -30,7 +32,7 @@ impl Model for Hashed {
 
     ghost view = { λ h. h.rows.items };
 
-    ghost invariant = { λ h. h.hash ≡ variables_hash h.rows.items };
+    ghost invariant = { λ h. (h.hash ≡ variables_hash h.rows.items) × HaveNames h.rows.items };
 }
 
 impl Hashed {
@@ -42,7 +44,8 @@ impl Hashed {
     }
 
     fn as_slice(&self) -> &[Variable]
-        ensures { result.now ≡ self.now }
+        ensures rows { result.now ≡ self.now }
+        ensures names { HaveNames self.now }
     {
         self.rows.as_slice()
     }
@@ -105,7 +108,8 @@ impl Variables {
 
     /// The variables, lent.
     pub fn as_slice(&self) -> &[Variable]
-        ensures { result.now ≡ self.now }
+        ensures rows { result.now ≡ self.now }
+        ensures names { HaveNames self.now }
     {
         match &self.shared {
             Some(shared) => shared.as_slice(),
@@ -144,7 +148,8 @@ impl Exact for Variables {
 
 /// The hash of variables: SipHash of their names and values. Its keys are fixed, so that a build does the same work each time.
 fn hash_of(rows: &[Variable]) -> u64
-    ensures { result ≡ variables_hash rows.now }
+    ensures hash { result ≡ variables_hash rows.now }
+    ensures names { HaveNames rows.now }
 {
     let mut state = DefaultHasher::new();
     write_rows(rows, &mut state);
@@ -153,11 +158,12 @@ fn hash_of(rows: &[Variable]) -> u64
 
 /// Writes how many variables there are, and then each.
 fn write_rows(rows: &[Variable], state: &mut DefaultHasher)
-    ensures { state.new ≡ fold sip.write state.old (slice variable_writes rows.now) }
+    ensures written { state.new ≡ fold sip.write state.old (slice variable_writes rows.now) }
+    ensures names { HaveNames rows.now }
 {
     rows.len().hash(state);
     for row in rows {
-        row.name.as_str().hash(state);
+        row.name.as_text().as_str().hash(state);
         row.value.as_str().hash(state);
     }
 }
