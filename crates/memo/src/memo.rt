@@ -24,7 +24,7 @@ use trees::Tree;
 /// What operations gave under one executor, which it borrows for as long as it is kept. The type keeps that each entry is what its operation gives
 /// under this executor, whatever the sources of a build are: so what is found serves every plan.
 ///
-/// It has no limit of its own. Whoever keeps one asks what it holds (`len`, `content_bytes`) and calls `forget`.
+/// It has no limit of its own. Whoever keeps one asks what it holds (`recent_len`, `earlier_len`, `content_bytes`) and calls `forget`.
 #[derive(Drop)]
 pub struct Memo<'a, E: Executor> {
     executor: &'a E,
