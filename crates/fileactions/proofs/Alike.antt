@@ -11,7 +11,7 @@ use Rattle.paths.specs.Path.{is_at_or_under}
 use Rattle.globs.specs.Glob.{relates}
 use Rattle.trees.specs.declared.cause.Cause.TheVariants.{F1}
 use Rattle.trees.specs.declared.copy.CopyOptions.{CopyOptions}
-use Rattle.trees.specs.declared.copy.CopySource.TheVariants.{Found}
+use Rattle.trees.specs.declared.copy.Source.TheVariants.{Found}
 use Rattle.trees.specs.declared.entry.Entry.{Entry}
 use Rattle.trees.specs.Copy.{parent_meta, is_absent, is_missing, match_changes, paths_changes, source_changes, changes_of, goes_into, tree_of_changes}
 use Rattle.trees.specs.Make.{made}

@@ -14,7 +14,7 @@ use Rattle.plain.specs.declared.owner.Owner.{Owner}
 use Rattle.trees.specs.declared.entry.Entry.{Entry}
 use Rattle.trees.specs.declared.entry.Entry.TheVariants.{Directory, File}
 use Rattle.trees.specs.declared.copy.CopyOptions.{CopyOptions}
-use Rattle.trees.specs.declared.copy.CopySource.TheVariants.{Data}
+use Rattle.trees.specs.declared.copy.Source.TheVariants.{Data}
 use Rattle.trees.specs.TreeMap.{TreeMap, IsTree, empty_tree, file_meta, is_directory}
 use Rattle.trees.specs.Put.{cause_at}
 use Rattle.trees.specs.Copy.{parent_meta, placed_entry, file_path, goes_into, source_changes, changes_of, change_cause, is_missing, is_absent}

@@ -2,7 +2,7 @@ use crate::reading::{cut, meta_of, mode_and_owner, path_of, paths_of, tree_at, t
 use paths::{Name, Path};
 use plain::{Bytes, Exact, Fault, Memory, Text};
 use std::alloc::Global;
-use trees::{Content, CopyOptions, CopySource, Entry, Meta, Tree, TreeFault};
+use trees::{Content, CopyOptions, Entry, Meta, Source, Tree, TreeFault};
 
 /// Changes a tree as a step says.
 pub fn change(
@@ -107,7 +107,7 @@ fn copy_found(
     dest: &str,
     sources: &str,
 ) -> Result<(), TreeFault> {
-    let source = CopySource::Found(paths_of(alloc, sources)?);
+    let source = Source::Found(paths_of(alloc, sources)?);
     copy_source(alloc, tree, from, source, dest, &options_of(meta, dest))
 }
 
@@ -130,10 +130,10 @@ fn copy_heredoc(alloc: Global, tree: &mut Tree, text: &str) -> Result<(), TreeFa
     done
 }
 
-fn heredoc(alloc: Global, name: &str, text: &str) -> Result<CopySource, Memory> {
+fn heredoc(alloc: Global, name: &str, text: &str) -> Result<Source, Memory> {
     let content = content_of(alloc, text)?;
     match Name::new(Text::from_str(alloc, name)?) {
-        Some(name) => Ok(CopySource::Data(name, content)),
+        Some(name) => Ok(Source::Data(name, content)),
         None => Err(Memory),
     }
 }
@@ -142,7 +142,7 @@ fn copy_source(
     alloc: Global,
     tree: &mut Tree,
     from: &Tree,
-    source: CopySource,
+    source: Source,
     dest: &str,
     options: &CopyOptions,
 ) -> Result<(), TreeFault> {

@@ -14,8 +14,8 @@ use Rattle.trees.specs.declared.meta.Meta.{Meta}
 use Rattle.trees.specs.declared.entry.Entry.{Entry}
 use Rattle.trees.specs.declared.entry.Entry.TheVariants.{Directory, File}
 use Rattle.trees.specs.declared.copy.CopyOptions.{CopyOptions}
-use Rattle.trees.specs.declared.copy.CopySource.{CopySource}
-use Rattle.trees.specs.declared.copy.CopySource.TheVariants.{Found, Data}
+use Rattle.trees.specs.declared.copy.Source.{Source}
+use Rattle.trees.specs.declared.copy.Source.TheVariants.{Found, Data}
 use Rattle.trees.specs.declared.copy.Change.{Change}
 use Rattle.trees.specs.declared.copy.Change.TheVariants.{Place, Make}
 use Rattle.trees.specs.declared.cause.Cause.{Cause}
@@ -95,11 +95,11 @@ module _ (o : CopyOptions) (into : Bool) (from : TreeMap) (dest : List (List ℕ
   named-paths [] = tt
   named-paths (path ∷ paths) = all-join (path_changes o into from dest path) _ (named-match path (get from path) refl) (named-paths paths)
 
-  named-source : (source : CopySource) → HasName source → AllByRecursion IsNamed (source_changes o into from dest source)
+  named-source : (source : Source) → HasName source → AllByRecursion IsNamed (source_changes o into from dest source)
   named-source (Found paths) h = named-paths paths
   named-source (Data name content) h = (names-place into dest (name ∷ []) (names-of dest clean) (names-of (name ∷ []) h), tt)
 
-  pub named-items : (sources : List CopySource) → AllByRecursion HasName sources → AllByRecursion IsNamed (changes_of o into from dest sources)
+  pub named-items : (sources : List Source) → AllByRecursion HasName sources → AllByRecursion IsNamed (changes_of o into from dest sources)
   named-items [] h = tt
   named-items (source ∷ sources) h = all-join (source_changes o into from dest source) _ (named-source source h.0) (named-items sources h.1)
 
@@ -134,12 +134,12 @@ found-all true r new e = cc
 found-all false r new e = e
 
 -- a tree after changes of which none fails is a tree
-pub changed_tree-IsTree : (tree from : TreeMap) (sources : List CopySource) (dest : List (List ℕ)) (o : CopyOptions) (into : Bool) → IsTree tree → IsTree from → IsClean dest → AllByRecursion HasName sources
+pub changed_tree-IsTree : (tree from : TreeMap) (sources : List Source) (dest : List (List ℕ)) (o : CopyOptions) (into : Bool) → IsTree tree → IsTree from → IsClean dest → AllByRecursion HasName sources
     → first_cause (parent_meta o) tree [] (changes_of o into from dest sources) ≡ None → IsTree (changed_tree (parent_meta o) tree (changes_of o into from dest sources))
 changed_tree-IsTree tree from sources dest o into h g clean named none = laid-more (parent_meta o) tree [] (changes_of o into from dest sources) h (named-items o into from dest g clean sources named) none
 
 -- a tree after a COPY is a tree
-pub copied-IsTree : (tree from new : TreeMap) (sources : List CopySource) (dest : List (List ℕ)) (o : CopyOptions) → IsTree tree → IsTree from → IsClean dest → AllByRecursion HasName sources → copied tree from sources dest o ≡ Ok new → IsTree new
+pub copied-IsTree : (tree from new : TreeMap) (sources : List Source) (dest : List (List ℕ)) (o : CopyOptions) → IsTree tree → IsTree from → IsClean dest → AllByRecursion HasName sources → copied tree from sources dest o ≡ Ok new → IsTree new
 copied-IsTree tree from new sources dest o h g clean named e =
     let changes : List Change = changes_of o (goes_into tree dest o) from dest sources in
     let done = told (first_cause (parent_meta o) tree [] changes) (changed_tree (parent_meta o) tree changes) new (found-all (list_any (is_missing from) sources) _ new e) in

@@ -28,7 +28,7 @@ use Rattle.trees.specs.Over.{over}
 use Rattle.trees.specs.Cause.{ChangesTree}
 use Rattle.trees.specs.Make.{make_cause, with_directory, made_with}
 use Rattle.trees.specs.Subtree.{map_below}
-use Rattle.trees.specs.declared.copy.CopySource.{CopySource}
+use Rattle.trees.specs.declared.copy.Source.{Source}
 use Rattle.trees.specs.Copy.{changes_of, source_changes, paths_changes, path_changes, match_changes, placed_entry, placements, last_placed, needs_directory, changed_tree, first_cause}
 use Rattle.trees.specs.PrivateCopy.{AppliesChanges, TellsCause, IsUnder, is_way, IsFreeBelow, MeetInDirectories, IsPlacedNode, IsLaidPlaced, IsNamed, Begins, IsJoined, Joins, IsSunk, Sinks, Comes, IsWhole, IsHung, HangsIn, keeping}
 use Rattle.trees.specs.PrivateNode.{NodeValue, map_of, IsBelow, IsDeeper, IsFilled, filled}
@@ -369,19 +369,19 @@ paths-sink o into from dest paths index path a less is h =
 pub paths-none : (o : CopyOptions) (into : Bool) (from : TreeMap) (dest : Path) (paths : List Path) (index : ℕ) (a : TreeMap) → length paths ≤ index → Joins dest (paths_changes o into from dest (drop index paths)) a a
 paths-none o into from dest paths index a less = subst (λ (ps : List Path). Joins dest (paths_changes o into from dest ps) a a) (sym (drop-all paths index less)) (joins-none dest a)
 
-pub sources-more : (o : CopyOptions) (into : Bool) (from : TreeMap) (dest : Path) (sources : List CopySource) (index : ℕ) (source : CopySource) (a b c : TreeMap) (came : Joined) → index < length sources → source ≡ get_or sources index source → Joins dest (source_changes o into from dest source) a b
+pub sources-more : (o : CopyOptions) (into : Bool) (from : TreeMap) (dest : Path) (sources : List Source) (index : ℕ) (source : Source) (a b c : TreeMap) (came : Joined) → index < length sources → source ≡ get_or sources index source → Joins dest (source_changes o into from dest source) a b
     → Comes dest (changes_of o into from dest (drop (index + 1) sources)) b c came → Comes dest (changes_of o into from dest (drop index sources)) a c came
 sources-more o into from dest sources index source a b c came less is h g =
-    subst (λ (ss : List CopySource). Comes dest (changes_of o into from dest ss) a c came) (sym (drop_more sources index source less ∙ ap (λ (q : CopySource). q ∷ drop (index + 1) sources) (sym is)))
+    subst (λ (ss : List Source). Comes dest (changes_of o into from dest ss) a c came) (sym (drop_more sources index source less ∙ ap (λ (q : Source). q ∷ drop (index + 1) sources) (sym is)))
     (comes-after dest (source_changes o into from dest source) (changes_of o into from dest (drop (index + 1) sources)) a b c came h g)
 
-pub sources-sink : (o : CopyOptions) (into : Bool) (from : TreeMap) (dest : Path) (sources : List CopySource) (index : ℕ) (source : CopySource) (a : TreeMap) → index < length sources → source ≡ get_or sources index source → Sinks dest (source_changes o into from dest source) a → Sinks dest (changes_of o into from dest (drop index sources)) a
+pub sources-sink : (o : CopyOptions) (into : Bool) (from : TreeMap) (dest : Path) (sources : List Source) (index : ℕ) (source : Source) (a : TreeMap) → index < length sources → source ≡ get_or sources index source → Sinks dest (source_changes o into from dest source) a → Sinks dest (changes_of o into from dest (drop index sources)) a
 sources-sink o into from dest sources index source a less is h =
-    subst (λ (ss : List CopySource). Sinks dest (changes_of o into from dest ss) a) (sym (drop_more sources index source less ∙ ap (λ (q : CopySource). q ∷ drop (index + 1) sources) (sym is)))
+    subst (λ (ss : List Source). Sinks dest (changes_of o into from dest ss) a) (sym (drop_more sources index source less ∙ ap (λ (q : Source). q ∷ drop (index + 1) sources) (sym is)))
     (sinks-before dest (source_changes o into from dest source) (changes_of o into from dest (drop (index + 1) sources)) a h)
 
-pub sources-none : (o : CopyOptions) (into : Bool) (from : TreeMap) (dest : Path) (sources : List CopySource) (index : ℕ) (a : TreeMap) → length sources ≤ index → Joins dest (changes_of o into from dest (drop index sources)) a a
-sources-none o into from dest sources index a less = subst (λ (ss : List CopySource). Joins dest (changes_of o into from dest ss) a a) (sym (drop-all sources index less)) (joins-none dest a)
+pub sources-none : (o : CopyOptions) (into : Bool) (from : TreeMap) (dest : Path) (sources : List Source) (index : ℕ) (a : TreeMap) → length sources ≤ index → Joins dest (changes_of o into from dest (drop index sources)) a a
+sources-none o into from dest sources index a less = subst (λ (ss : List Source). Joins dest (changes_of o into from dest ss) a a) (sym (drop-all sources index less)) (joins-none dest a)
 
 -- a folder is laid as it is placed
 pub laid-placed : (o : CopyOptions) (old : TreeMap) (folder upper : NodeValue) (new : TreeMap) → IsPlacedNode o folder upper → new ≡ over old (map_of upper) → IsLaidPlaced o old folder new

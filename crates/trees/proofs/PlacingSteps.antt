@@ -8,7 +8,7 @@ use Rattle.std.specs.FinMap.{get}
 use Rattle.trees.specs.declared.meta.Meta.{Meta}
 use Rattle.trees.specs.declared.copy.Change.{Change}
 use Rattle.trees.specs.declared.copy.CopyOptions.{CopyOptions}
-use Rattle.trees.specs.declared.copy.CopySource.{CopySource}
+use Rattle.trees.specs.declared.copy.Source.{Source}
 use Rattle.trees.specs.declared.cause.Cause.{Cause}
 use Rattle.plain.specs.declared.fault.Fault.{Fault}
 use Rattle.plain.specs.declared.fault.Fault.TheVariants.{Because, Memory}
@@ -103,9 +103,9 @@ pub next-path : (o : CopyOptions) (into : Bool) (from : TreeMap) (dest : List (L
 next-path o into from dest paths index path less is = ap (paths_changes o into from dest) (drop_more paths index path less ∙ ap (λ (q : List (List ℕ)). q ∷ drop (index + 1) paths) (sym is))
 
 -- and those of the sources with those of the next one
-pub next-source : (o : CopyOptions) (into : Bool) (from : TreeMap) (dest : List (List ℕ)) (sources : List CopySource) (index : ℕ) (source : CopySource) → index < length sources → source ≡ get_or sources index source
+pub next-source : (o : CopyOptions) (into : Bool) (from : TreeMap) (dest : List (List ℕ)) (sources : List Source) (index : ℕ) (source : Source) → index < length sources → source ≡ get_or sources index source
     → changes_of o into from dest (drop index sources) ≡ source_changes o into from dest source ++ changes_of o into from dest (drop (index + 1) sources)
-next-source o into from dest sources index source less is = ap (changes_of o into from dest) (drop_more sources index source less ∙ ap (λ (q : CopySource). q ∷ drop (index + 1) sources) (sym is))
+next-source o into from dest sources index source less is = ap (changes_of o into from dest) (drop_more sources index source less ∙ ap (λ (q : Source). q ∷ drop (index + 1) sources) (sym is))
 
 -- the same, told by what equals the meta and the changes
 pub told-by : (meta parent : Meta) (changes list : List Change) (before : Kinds) (old : TreeMap) (after : Kinds) (new : TreeMap) (r : Result (Unit {0}) (Fault Cause)) → parent ≡ meta → list ≡ changes → AppliesMore parent list before old after new r

@@ -13,8 +13,8 @@ use Rattle.trees.specs.declared.meta.Meta.{Meta}
 use Rattle.trees.specs.declared.entry.Entry.{Entry}
 use Rattle.trees.specs.declared.entry.Entry.TheVariants.{Directory, File}
 use Rattle.trees.specs.declared.copy.CopyOptions.{CopyOptions}
-use Rattle.trees.specs.declared.copy.CopySource.{CopySource}
-use Rattle.trees.specs.declared.copy.CopySource.TheVariants.{Found, Data}
+use Rattle.trees.specs.declared.copy.Source.{Source}
+use Rattle.trees.specs.declared.copy.Source.TheVariants.{Found, Data}
 use Rattle.trees.specs.declared.copy.Change.{Change}
 use Rattle.trees.specs.declared.copy.Change.TheVariants.{Place, Make}
 use Rattle.trees.specs.declared.cause.Cause.{Cause}
@@ -79,13 +79,13 @@ paths_changes options into from dest [] = []
 paths_changes options into from dest (path ∷ paths) = path_changes options into from dest path ++ paths_changes options into from dest paths
 
 -- those of a source: its matches in order, or a file of its own, 0644 and 0:0
-abbrev pub source_changes : CopyOptions → Bool → TreeMap → List (List ℕ) → CopySource → List Change
+abbrev pub source_changes : CopyOptions → Bool → TreeMap → List (List ℕ) → Source → List Change
 source_changes options into from dest (Found paths) = paths_changes options into from dest paths
 source_changes options into from dest (Data name content) =
     Place (file_path into dest (name ∷ [])) (placed_entry options (File file_meta content)) ∷ []
 
 -- those of all sources, one after another
-abbrev pub changes_of : CopyOptions → Bool → TreeMap → List (List ℕ) → List CopySource → List Change
+abbrev pub changes_of : CopyOptions → Bool → TreeMap → List (List ℕ) → List Source → List Change
 changes_of options into from dest [] = []
 changes_of options into from dest (source ∷ sources) = source_changes options into from dest source ++ changes_of options into from dest sources
 
@@ -162,7 +162,7 @@ abbrev pub is_absent : TreeMap → List (List ℕ) → Bool
 is_absent tree path = not (is_some (get tree path))
 
 -- a source isn't there: a pattern has no match, or nothing stands at a path that is said to be one (own)
-abbrev pub is_missing : TreeMap → CopySource → Bool
+abbrev pub is_missing : TreeMap → Source → Bool
 is_missing from (Found paths) = length paths == 0 || list_any (is_absent from) paths
 is_missing from (Data name content) = false
 
@@ -176,7 +176,7 @@ goes_into tree dest options = options.into || is_directory (get tree dest)
 
 -- The tree of a COPY of these sources, found in one tree, to a destination in another; or the cause why there is none. That a source
 -- is missing is told before anything is placed.
-abbrev pub copied : TreeMap → TreeMap → List CopySource → List (List ℕ) → CopyOptions → TreeOrCause
+abbrev pub copied : TreeMap → TreeMap → List Source → List (List ℕ) → CopyOptions → TreeOrCause
 copied tree from sources dest options =
     if list_any (is_missing from) sources
     then Err F1
@@ -185,7 +185,7 @@ copied tree from sources dest options =
 -- ---- what the laws say more
 
 -- the name of a source that is a file of its own is one component
-abbrev pub HasName : CopySource → Type 0
+abbrev pub HasName : Source → Type 0
 HasName (Found paths) = Unit {0}
 HasName (Data name content) = IsComponent name
 

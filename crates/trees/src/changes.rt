@@ -11,13 +11,13 @@ ghost use Rattle.trees.specs.PrivateNode.{map_of};
 
 use crate::copy::Change;
 use crate::node::Node;
-use crate::{Content, CopyOptions, CopySource, Entry, Meta, Tree};
+use crate::{Content, CopyOptions, Entry, Meta, Source, Tree};
 use paths::{LongPath, Name, Path};
 use plain::{Exact, Memory, Text};
 use std::alloc::Global;
 
 /// Whether one of the sources isn't there.
-pub(crate) fn is_any_missing(from: &Tree, sources: &[CopySource]) -> bool
+pub(crate) fn is_any_missing(from: &Tree, sources: &[Source]) -> bool
     ensures { result ≡ list_any (is_missing from.now) sources.now }
 {
     for source in sources {
@@ -29,12 +29,12 @@ pub(crate) fn is_any_missing(from: &Tree, sources: &[CopySource]) -> bool
 }
 
 /// Whether a source isn't there.
-fn is_missing(from: &Tree, source: &CopySource) -> bool
+fn is_missing(from: &Tree, source: &Source) -> bool
     ensures { result ≡ is_missing from.now source.now }
 {
     match source {
-        CopySource::Found(paths) => paths.is_empty() || is_any_absent(from, paths.as_slice()),
-        CopySource::Data(_, _) => false,
+        Source::Found(paths) => paths.is_empty() || is_any_absent(from, paths.as_slice()),
+        Source::Data(_, _) => false,
     }
 }
 

@@ -24,7 +24,7 @@ pub struct CopyOptions {
 
 /// A source of a COPY, already looked up.
 #[derive(Drop)]
-pub enum CopySource {
+pub enum Source {
     /// The paths of the tree copied from that a pattern matches, in path order. None at all, or a path at which nothing stands,
     /// is a missing source (`F1`).
     Found(Items<Path>),

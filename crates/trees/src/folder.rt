@@ -15,7 +15,7 @@ use crate::apply::{make, make_cause};
 use crate::lent_node::LentNode;
 use crate::node::Node;
 use crate::placing::place_each;
-use crate::{Cause, CopyOptions, CopySource, Entry, Meta, Tree, TreeFault};
+use crate::{Cause, CopyOptions, Entry, Meta, Source, Tree, TreeFault};
 use paths::Path;
 use plain::limits::MOST_COMPONENTS;
 use plain::{Fault, Memory};
@@ -51,7 +51,7 @@ pub(crate) fn place_sources(
     options: &CopyOptions,
     from: &Tree,
     dest: &Path,
-    sources: &[CopySource],
+    sources: &[Source],
 ) -> Result<(), TreeFault>
     requires { IsTree (map_of root.old) }
     ensures { AppliesChanges (parent_meta options.now) (changes_of options.now (goes_into (map_of root.old) dest.now options.now) from.now dest.now sources.now) (map_of root.old) (map_of root.new) result }
@@ -81,7 +81,7 @@ fn whole_folder(
     options: &CopyOptions,
     from: &Tree,
     dest: &Path,
-    sources: &[CopySource],
+    sources: &[Source],
 ) -> Result<Whole, Memory>
     requires { IsTree (map_of root.now) }
     ensures { IfOk result (λ found. (into : Bool) → IsFoundOf (map_of root.now) dest.now (changes_of options.now into from.now dest.now sources.now) found) }
@@ -110,7 +110,7 @@ fn join_sources(
     options: &CopyOptions,
     from: &Tree,
     dest: &Path,
-    sources: &[CopySource],
+    sources: &[Source],
 ) -> Result<Joined, Memory>
     requires { IsClean dest.now }
     ensures { IfOk result (λ came. (into : Bool) → Comes dest.now (changes_of options.now into from.now dest.now sources.now) (map_of joined.old) (map_of joined.new) came) }
@@ -132,16 +132,14 @@ fn join_source(
     options: &CopyOptions,
     from: &Tree,
     dest: &Path,
-    source: &CopySource,
+    source: &Source,
 ) -> Result<Joined, Memory>
     requires { IsClean dest.now }
     ensures { IfOk result (λ came. (into : Bool) → Comes dest.now (source_changes options.now into from.now dest.now source.now) (map_of joined.old) (map_of joined.new) came) }
 {
     match source {
-        CopySource::Found(paths) => {
-            join_paths(alloc, joined, options, from, dest, paths.as_slice())
-        }
-        CopySource::Data(_, _) => Ok(Joined::Other),
+        Source::Found(paths) => { join_paths(alloc, joined, options, from, dest, paths.as_slice()) }
+        Source::Data(_, _) => Ok(Joined::Other),
     }
 }
 

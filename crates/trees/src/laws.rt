@@ -11,8 +11,8 @@ ghost use Rattle.trees.specs.declared.entry.Entry.{Entry};
 ghost use Rattle.trees.specs.declared.entry.Entry.TheVariants.{Directory, File};
 ghost use Rattle.trees.specs.declared.meta.Meta.{Meta};
 ghost use Rattle.trees.specs.declared.copy.Change.{Change};
-ghost use Rattle.trees.specs.declared.copy.CopySource.{CopySource};
-ghost use Rattle.trees.specs.declared.copy.CopySource.TheVariants.{Found};
+ghost use Rattle.trees.specs.declared.copy.Source.{Source};
+ghost use Rattle.trees.specs.declared.copy.Source.TheVariants.{Found};
 ghost use Rattle.trees.specs.declared.copy.CopyOptions.{CopyOptions};
 ghost use Rattle.trees.specs.declared.cause.Cause.TheVariants.{F1};
 ghost use Rattle.paths.specs.Fronts.{is_front};
@@ -76,7 +76,7 @@ pub fn merges_are_flattened()
 pub fn a_copy_is_a_flat_map()
     ensures at { (meta : Meta) (tree : TreeMap) (changes : List Change) (q : List (List ℕ))
         → get (changed_tree meta tree changes) q ≡ option_or (last_placed changes q) (option_or (get tree q) (if needs_directory changes q then Some (Directory meta) else None)) }
-    ensures tree { (tree from new : TreeMap) (sources : List CopySource) (dest : List (List ℕ)) (options : CopyOptions)
+    ensures tree { (tree from new : TreeMap) (sources : List Source) (dest : List (List ℕ)) (options : CopyOptions)
         → IsTree tree → IsTree from → IsClean dest → AllByRecursion HasName sources → copied tree from sources dest options ≡ Ok new → IsTree new }
     ensures file { (tree from : TreeMap) (path dest : List (List ℕ)) (options : CopyOptions) (meta : Meta) (content : List ℕ)
         → IsClean dest → get from path ≡ Some (File meta content) → goes_into tree dest options ≡ false

@@ -48,7 +48,7 @@ pub use branch::{Branch, Branches};
 pub use builder::TreeBuilder;
 pub use cause::{Cause, TreeFault, TreeOrCause};
 pub use content::Content;
-pub use copy::{CopyOptions, CopySource};
+pub use copy::{CopyOptions, Source};
 pub use entry::Entry;
 pub use lent_entry::LentEntry;
 pub use meta::Meta;

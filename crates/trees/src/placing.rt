@@ -9,7 +9,7 @@ ghost use Rattle.trees.specs.PrivateNode.{map_of};
 use crate::apply::{Placed, apply_all};
 use crate::changes::{data_changes, goes_into, path_changes};
 use crate::node::Node;
-use crate::{CopyOptions, CopySource, Tree, TreeFault};
+use crate::{CopyOptions, Source, Tree, TreeFault};
 use paths::Path;
 use std::alloc::Global;
 use std::collections::BTreeMap;
@@ -21,7 +21,7 @@ pub(crate) fn place_each(
     options: &CopyOptions,
     from: &Tree,
     dest: &Path,
-    sources: &[CopySource],
+    sources: &[Source],
 ) -> Result<(), TreeFault>
     requires { IsTree (map_of root.old) }
     ensures { AppliesChanges (parent_meta options.now) (changes_of options.now (goes_into (map_of root.old) dest.now options.now) from.now dest.now sources.now) (map_of root.old) (map_of root.new) result }
@@ -43,18 +43,18 @@ fn place_source(
     into: bool,
     from: &Tree,
     dest: &Path,
-    source: &CopySource,
+    source: &Source,
 ) -> Result<(), TreeFault>
     requires { IsTree (map_of root.old) }
     ensures { AppliesMore (parent_meta options.now) (source_changes options.now into from.now dest.now source.now) (kind_in placed.old.entries) (map_of root.old)
         (kind_in placed.new.entries) (map_of root.new) result }
 {
     match source {
-        CopySource::Found(paths) => {
+        Source::Found(paths) => {
             let paths = paths.as_slice();
             place_matches(alloc, root, placed, options, into, from, dest, paths)
         }
-        CopySource::Data(name, content) => {
+        Source::Data(name, content) => {
             let changes = data_changes(alloc, options, into, dest, name, content)?;
             let parent = options.parent_meta();
             apply_all(alloc, root, placed, &parent, changes)

@@ -20,9 +20,7 @@ use crate::growing::grow;
 use crate::lent_node::LentNode;
 use crate::node::Node;
 use crate::put::{cause_at, written_meta};
-use crate::{
-    Branch, Cause, Content, CopyOptions, CopySource, Entry, LentEntry, Meta, TreeFault, Walk,
-};
+use crate::{Branch, Cause, Content, CopyOptions, Entry, LentEntry, Meta, Source, TreeFault, Walk};
 use paths::Path;
 use plain::{Exact, Fault, Memory};
 use std::alloc::Global;
@@ -242,7 +240,7 @@ impl Tree {
         &mut self,
         alloc: Global,
         from: &Tree,
-        sources: &[CopySource],
+        sources: &[Source],
         dest: &Path,
         options: &CopyOptions,
     ) -> Result<(), TreeFault>
@@ -263,7 +261,7 @@ impl Tree {
         self,
         alloc: Global,
         from: &Tree,
-        sources: &[CopySource],
+        sources: &[Source],
         dest: &Path,
         options: &CopyOptions,
     ) -> Result<Tree, TreeFault>

@@ -10,7 +10,7 @@ use llb::{CopyFiles, FileSource, Op};
 use paths::Path;
 use plain::{Exact, Fault, Memory};
 use std::alloc::Global;
-use trees::{CopySource, Tree, TreeFault, TreeOrCause};
+use trees::{Source, Tree, TreeFault, TreeOrCause};
 
 /// The value of an operation on files, a copy or the making of a directory, on the trees of its inputs. The first input is copied,
 /// and all is done in that copy.
@@ -81,11 +81,7 @@ fn settle_dirs(alloc: Global, path: &Path, tree: &Tree) -> Result<TreeOrCause, M
 }
 
 /// The sources of a copy, each found in the tree that is copied from.
-fn find_sources(
-    alloc: Global,
-    from: &Tree,
-    sources: &[FileSource],
-) -> Result<Vec<CopySource>, Memory>
+fn find_sources(alloc: Global, from: &Tree, sources: &[FileSource]) -> Result<Vec<Source>, Memory>
     ensures { IfOk result (λ found. found.items ≡ sources_in from.now sources.now) }
 {
     let mut found = Vec::with_capacity(alloc, sources.len())?;
@@ -96,19 +92,15 @@ fn find_sources(
 }
 
 /// A source, found in the tree that is copied from.
-fn find_source(alloc: Global, from: &Tree, source: &FileSource) -> Result<CopySource, Memory>
+fn find_source(alloc: Global, from: &Tree, source: &FileSource) -> Result<Source, Memory>
     ensures { IfOk result (λ found. found ≡ source_in from.now source.now) }
 {
     match source {
-        FileSource::Pattern(text) => Ok(CopySource::Found(find_matches(
-            alloc,
-            from,
-            text.as_str(),
-        )?)),
+        FileSource::Pattern(text) => Ok(Source::Found(find_matches(alloc, from, text.as_str())?)),
         FileSource::Data(name, content) => {
             let name = name.copy(alloc)?;
             let content = content.copy(alloc)?;
-            Ok(CopySource::Data(name, content))
+            Ok(Source::Data(name, content))
         }
     }
 }
