@@ -1,6 +1,6 @@
 use lines::{Escape, Heredoc, Line, Reader};
 use paths::{LongPath, Name, Path};
-use plain::{Bytes, Exact, Memory, Mode, Owner, Sharing, Text, Variable};
+use plain::{Bytes, Exact, Memory, Mode, Owner, Sharing, Text, Variable, VariableName};
 use std::alloc::Global;
 
 /// Whether a value has a copy, which is the same value.
@@ -41,7 +41,7 @@ fn are_texts_copied(alloc: Global) -> Result<bool, Memory> {
 }
 
 fn is_variable_copied(alloc: Global) -> Result<bool, Memory> {
-    let name = Text::from_str(alloc, "PATH")?;
+    let name = VariableName::of(Text::from_str(alloc, "PATH")?);
     let value = Text::from_str(alloc, "/bin")?;
     Ok(is_copied(alloc, &Variable { name, value }))
 }

@@ -1,9 +1,11 @@
 -- What a vertex of a graph has to be. A definition with a vertex that isn't so is malformed (own); the rules for mounts are
 -- those of the Dockerfile reference, RUN --mount.
-use Rattle.std.specs.Prelude.{◌==◌, ◌+◌, ℕ, Bool, true, false, ◌&&◌, List, ◌++◌, map, length, not, nat_eq, nat_le, codes, if◌then◌else◌}
+use Rattle.std.specs.Prelude.{◌==◌, ◌+◌, ℕ, Bool, true, false, ◌&&◌, List, [], ◌++◌, map, length, not, nat_eq, nat_le, codes, if◌then◌else◌}
 use Rattle.std.specs.List.{list_all, list_any}
 use Rattle.std.specs.Cmp.Lexicographic.{pointwise}
 use Rattle.runs.specs.Run.{mounts_fit, ids_differ, ids_of}
+use Rattle.plain.specs.Variable.{names_of, HaveNames}
+use Rattle.plain.specs.VariableName.{is_variable_name}
 use Rattle.plain.specs.declared.variable.Variable.{Variable}
 use Rattle.runs.specs.declared.run.CacheUse.{CacheUse}
 use Rattle.globs.specs.Glob.{is_malformed}
@@ -18,10 +20,6 @@ use Rattle.llb.specs.declared.op.Op.{Op}
 use Rattle.llb.specs.declared.op.Op.TheVariants.{Source as SourceOp, Exec as ExecOp, Copy as CopyOp, MakeDirs as MakeDirsOp, Merge as MergeOp}
 use Rattle.llb.specs.declared.vertex.Vertex.{Vertex}
 
--- the code of `=`
-abbrev pub equals_sign : ℕ
-equals_sign = 61
-
 -- the name scratch, which stands for the empty tree and is no image's
 abbrev pub scratch_name : List ℕ
 scratch_name = codes "scratch"
@@ -32,17 +30,9 @@ is_well_formed_source Scratch = true
 is_well_formed_source Context = true
 is_well_formed_source (Image name) = not (length name == 0) && not (pointwise nat_eq name scratch_name)
 
--- a variable's name isn't empty and holds no `=`, so that NAME=VALUE is cut at the right place
-abbrev pub is_variable_name : List ℕ → Bool
-is_variable_name name = not (length name == 0) && not (list_any (λ byte. byte == equals_sign) name)
-
--- the names of some variables, in their order
-abbrev pub names_of : List Variable → List (List ℕ)
-names_of env = map (λ variable. variable.name) env
-
--- each variable has a name, and no two have the same
+-- what all variables are called are names, and no two have the same
 abbrev pub is_environment : List Variable → Bool
-is_environment env = list_all (λ variable. is_variable_name variable.name) env && ids_differ (names_of env)
+is_environment env = list_all is_variable_name (names_of env) && ids_differ (names_of env)
 
 -- where the mounts of a command are: those of the binds, then those of the caches
 abbrev pub targets_of : Exec → List (List (List ℕ))
@@ -83,3 +73,15 @@ is_well_formed_on MergeOp inputs = nat_le 2 inputs
 -- whether a vertex is well formed
 abbrev pub is_well_formed : Vertex → Bool
 is_well_formed vertex = is_well_formed_on vertex.op (length vertex.inputs)
+
+-- the environment that an operation runs in: a command's; what isn't a command has none
+abbrev pub environment_of : Op → List Variable
+environment_of (SourceOp source) = []
+environment_of (ExecOp exec) = exec.env
+environment_of (CopyOp files) = []
+environment_of (MakeDirsOp path) = []
+environment_of MergeOp = []
+
+-- all that a vertex's environment has is called by names, as its type keeps
+abbrev pub HasNames : Vertex → Type 0
+HasNames vertex = HaveNames (environment_of vertex.op)

@@ -4,7 +4,7 @@ ghost use Rattle.std.specs.List.{All};
 ghost use Rattle.llb.specs.Graph.{IsAfterInputs, IsNew, IsGraph, Adds};
 ghost use Rattle.plain.specs.Limits.{most_vertices};
 ghost use Rattle.llb.specs.PrivateLast.{PutsLast};
-ghost use Rattle.llb.specs.WellFormed.{is_well_formed};
+ghost use Rattle.llb.specs.WellFormed.{is_well_formed, HasNames};
 ghost use Rattle.llb.specs.Places.{IsLine, AreLines, lines_of, least_line};
 
 use crate::hash::hash_of;
@@ -58,7 +58,7 @@ impl Graph {
         line: Option<u32>,
     ) -> Result<VertexId, GraphFault>
         requires inputs { IsAfterInputs (length self.old.vertices) vertex }
-        requires well_formed { IsTrue (is_well_formed vertex) }
+        requires well_formed { HasNames vertex → IsTrue (is_well_formed vertex) }
         requires line { ForSome line IsLine }
         ensures adds { Adds self.old self.new vertex (lines_of line) result }
         ensures err { OnErr result (self.new ≡ self.old) }
@@ -81,11 +81,12 @@ impl Graph {
         lines: &[u32],
     ) -> Result<VertexId, GraphFault>
         requires inputs { IsAfterInputs (length self.old.vertices) vertex }
-        requires well_formed { IsTrue (is_well_formed vertex) }
+        requires well_formed { HasNames vertex → IsTrue (is_well_formed vertex) }
         requires lines { AreLines lines.now }
         ensures adds { Adds self.old self.new vertex lines.now result }
         ensures err { OnErr result (self.new ≡ self.old) }
     {
+        let _known = vertex.op.environment();
         // A vertex that isn't added is let go by name: let go at the end of the function, the proof would walk all its parts at each end.
         let Ok(()) = self.index.enter_rest(alloc, self.vertices.as_slice()) else {
             drop(vertex);
@@ -112,12 +113,13 @@ impl Graph {
     /// [`Graph::add_all`], which finds out whether one is equal, but without looking for one.
     pub fn append(&mut self, vertex: Vertex, lines: Items<u32>) -> Result<VertexId, GraphFault>
         requires inputs { IsAfterInputs (length self.old.vertices) vertex }
-        requires well_formed { IsTrue (is_well_formed vertex) }
+        requires well_formed { HasNames vertex → IsTrue (is_well_formed vertex) }
         requires lines { AreLines lines }
         requires fresh { IsNew self.old.vertices vertex }
         ensures adds { Adds self.old self.new vertex lines result }
         ensures err { OnErr result (self.new ≡ self.old) }
     {
+        let _known = vertex.op.environment();
         put_last(&mut self.vertices, &mut self.places, vertex, lines)
     }
 

@@ -1,7 +1,8 @@
 ghost use Rattle.std.specs.Prelude.{◌≡◌, ◌++◌, ◌&&◌, not, map, IfOk};
 ghost use Rattle.std.specs.List.{list_all, list_any};
 ghost use Rattle.runs.specs.Run.{targets_clash, is_root, mounts_fit, ids_differ};
-ghost use Rattle.llb.specs.WellFormed.{is_well_formed_source, is_variable_name, is_environment, is_well_formed_exec, is_pattern, inputs_of_copy, is_well_formed_file_source, is_well_formed_copy, is_well_formed_on};
+ghost use Rattle.plain.specs.Variable.{HaveNames};
+ghost use Rattle.llb.specs.WellFormed.{is_well_formed_source, is_well_formed_exec, is_pattern, inputs_of_copy, is_well_formed_file_source, is_well_formed_copy, is_well_formed_on, environment_of};
 
 use crate::{Bind, CopyFiles, Exec, FileSource, Op, Source};
 use globs::Glob;
@@ -25,7 +26,7 @@ impl Named for Variable {
     ghost name_of = { λ variable. variable.name };
 
     fn name(&self) -> &Text {
-        &self.name
+        self.name.as_text()
     }
 }
 
@@ -67,8 +68,7 @@ impl Op {
     /// Whether the operation is well formed on that many inputs: what the vertices of a graph are.
     ///
     /// A source has none, and an image's name isn't empty and not `scratch`. A command has a first input and one for each bind, a
-    /// word, an environment without an empty name, a name with `=` or a name twice, and mounts that can be mounted together, no
-    /// cache twice among them. A copy has a source, no malformed pattern, a first input, and a second one exactly where a source is a
+    /// word, an environment without a name twice, and mounts that can be mounted together, no cache twice among them. A copy has a source, no malformed pattern, a first input, and a second one exactly where a source is a
     /// pattern. Making
     /// directories has one input, and a merge two at least.
     pub fn is_well_formed(&self, alloc: Global, inputs: usize) -> Result<bool, Memory>
@@ -86,6 +86,17 @@ impl Op {
             }
             Op::MakeDirs(_) => Ok(inputs == 1),
             Op::Merge => Ok(inputs >= 2),
+        }
+    }
+
+    /// The environment that the operation runs in, if it is a command; what isn't has none.
+    pub fn environment(&self) -> &[Variable]
+        ensures value { result.now ≡ environment_of self.now }
+        ensures names { HaveNames (environment_of self.now) }
+    {
+        match self {
+            Op::Exec(exec) => exec.env.as_slice(),
+            Op::Source(_) | Op::Copy(_) | Op::MakeDirs(_) | Op::Merge => &[],
         }
     }
 }
@@ -167,11 +178,12 @@ fn is_well_formed_file_source(alloc: Global, source: &FileSource) -> Result<bool
 fn is_well_formed_exec(alloc: Global, exec: &Exec) -> Result<bool, Memory>
     ensures { IfOk result (λ answer. answer ≡ is_well_formed_exec exec.now) }
 {
-    let env_fits = is_environment(alloc, exec.env.as_slice())?;
+    // that each is called by a name is kept by its type
+    let env_names_differ = names_differ(alloc, exec.env.as_slice())?;
     let mounts_fit = binds_fit(exec.binds.as_slice(), exec.caches.as_slice());
     let caches_differ = names_differ(alloc, exec.caches.as_slice())?;
     let is_empty = exec.words.is_empty();
-    Ok(all_hold(!is_empty, env_fits, mounts_fit, caches_differ))
+    Ok(all_hold(!is_empty, env_names_differ, mounts_fit, caches_differ))
 }
 
 /// Whether all four hold.
@@ -179,28 +191,6 @@ fn all_hold(first: bool, second: bool, third: bool, fourth: bool) -> bool
     ensures { result ≡ (first && (second && (third && fourth))) }
 {
     first && second && third && fourth
-}
-
-/// Whether each variable has a name, and no two have the same.
-fn is_environment(alloc: Global, env: &[Variable]) -> Result<bool, Memory>
-    ensures { IfOk result (λ answer. answer ≡ is_environment env.now) }
-{
-    let differ = names_differ(alloc, env)?;
-    Ok(are_variable_names(env) && differ)
-}
-
-/// Whether each variable has a name that isn't empty and holds no `=`.
-fn are_variable_names(env: &[Variable]) -> bool
-    ensures { result ≡ list_all (λ variable. is_variable_name variable.name) env.now }
-{
-    env.iter().all(|variable| is_variable_name(&variable.name))
-}
-
-/// Whether a variable may be called so.
-fn is_variable_name(name: &Text) -> bool
-    ensures { result ≡ is_variable_name name.now }
-{
-    name.len() != 0 && !name.as_str().as_bytes().contains(&b'=')
 }
 
 /// Whether no two of these have the same name. It takes about as many steps as there are items, whatever they are called: an

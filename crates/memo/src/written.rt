@@ -111,7 +111,7 @@ impl Written for Variable {
     ghost writes = { variable_writes };
 
     fn write_to(&self, hasher: &mut Sha256) {
-        self.name.write_to(hasher);
+        self.name.as_text().write_to(hasher);
         self.value.write_to(hasher);
     }
 }

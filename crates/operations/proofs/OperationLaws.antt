@@ -12,7 +12,9 @@ use Rattle.llb.specs.declared.op.Source.{Source}
 use Rattle.llb.specs.declared.op.CopyFiles.{CopyFiles}
 use Rattle.llb.specs.declared.op.Op.{Op}
 use Rattle.llb.specs.declared.op.Op.TheVariants.{Source as SourceOp, Exec as ExecOp, Copy as CopyOp, MakeDirs as MakeDirsOp, Merge as MergeOp}
-use Rattle.llb.specs.WellFormed.{is_well_formed_on, is_well_formed_exec, is_variable_name, is_environment}
+use Rattle.plain.specs.Variable.{names_of}
+use Rattle.plain.specs.VariableName.{is_variable_name}
+use Rattle.llb.specs.WellFormed.{is_well_formed_on, is_well_formed_exec, is_environment}
 use Rattle.strict.specs.Strict.{list_in}
 use Rattle.operations.specs.Texts.{bind_data, cache_data, variable_data, file_source_data, source_data, exec_data, copy_data, mkdir_data, merge_data, op_data}
 use Rattle.operations.specs.Spelled.{is_address, inputs_in, variable_in, bind_in, cache_in, source_in, exec_in, owner_in, options_in, file_source_in, copy_in, mkdir_in, file_op_in, merge_in, op_of, spelled_in}
@@ -23,7 +25,7 @@ source-back : (inputs : List (List ℕ)) (source : Source) → source_in (source
 unfolding source_in source_data
 source-back inputs source = source-text source
 
-names-hold : (env : List Variable) → list_all (λ variable. is_variable_name variable.name) env ≡ true → AllByRecursion (λ (variable : Variable). is_variable_name variable.name ≡ true) env
+names-hold : (env : List Variable) → list_all is_variable_name (names_of env) ≡ true → AllByRecursion (λ (variable : Variable). is_variable_name variable.name ≡ true) env
 names-hold [] all = tt
 names-hold (v ∷ vs) all = (both_first _ _ all, names-hold vs (both_second (is_variable_name v.name) _ all))
 

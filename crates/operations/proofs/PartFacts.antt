@@ -25,7 +25,7 @@ use Rattle.llb.specs.declared.op.Source.{Source}
 use Rattle.llb.specs.declared.op.Source.TheVariants.{Scratch, Context, Image}
 use Rattle.llb.specs.declared.op.FileSource.{FileSource}
 use Rattle.llb.specs.declared.op.FileSource.TheVariants.{Pattern, Data as OwnFile}
-use Rattle.llb.specs.WellFormed.{is_variable_name}
+use Rattle.plain.specs.VariableName.{is_variable_name}
 use Rattle.strict.specs.Strict.{all_in, path_in, short_number_in}
 use Rattle.operations.specs.Texts.{path_data, bind_data, cache_data, variable_data, variable_text, sharing_text, source_text, number_data, uid_data, gid_data, file_source_data}
 use Rattle.operations.specs.Spelled.{variable_of, variable_in, sharing_of, bind_in, cache_in, source_of, or_null, mode_in, owner_of, name_in, content_in, pattern_in, own_file_in, file_source_in}
@@ -94,7 +94,7 @@ unnot false e = refl
 variable-text : (variable : Variable) → is_variable_name variable.name ≡ true → variable_of (variable_text variable) ≡ Some variable
 variable-text variable named =
     let len : position_or_len (λ c. c == 61) (variable.name ++ 61 ∷ variable.value) ≡ length variable.name = name-len variable.name variable.value (unnot _ (both_second (not (length variable.name == 0)) _ named)) in
-    rw (len, not_whole variable.name variable.value, take-front variable.name (61 ∷ variable.value), drop-front variable.name variable.value 61) refl
+    rw (len, not_whole variable.name variable.value, take-front variable.name (61 ∷ variable.value), named, drop-front variable.name variable.value 61) refl
 
 pub variable-back : (variable : Variable) → is_variable_name variable.name ≡ true → variable_in (variable_data variable) ≡ Some variable
 unfolding variable_in

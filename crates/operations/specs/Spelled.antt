@@ -11,6 +11,7 @@ use Rattle.paths.specs.Name.{is_component}
 use Rattle.plain.specs.declared.owner.Owner.{Owner}
 use Rattle.plain.specs.declared.sharing.Sharing.{Sharing}
 use Rattle.plain.specs.declared.sharing.Sharing.TheVariants.{Shared, Private, Locked}
+use Rattle.plain.specs.VariableName.{is_variable_name}
 use Rattle.plain.specs.declared.variable.Variable.{Variable}
 use Rattle.runs.specs.declared.run.CacheUse.{CacheUse}
 use Rattle.trees.specs.declared.copy.CopyOptions.{CopyOptions}
@@ -39,11 +40,13 @@ is_address text = length text == 71 && (starts_with nat_eq text (codes "sha256:"
 unfoldable pub inputs_in : Data → Option (List (List ℕ))
 inputs_in d = option_and_then (λ inputs. if list_all is_address inputs then Some inputs else None) (option_and_then (list_in as_str) (get (codes "inputs") d))
 
--- a variable, cut at its first `=`
+-- a variable, cut at its first `=`, before which its name stands
 abbrev pub variable_of : List ℕ → Option Variable
 variable_of text =
     if position_or_len (λ c. c == 61) text == length text then None
-    else Some (record { name = before_first (λ c. c == 61) text; value = after_first (λ c. c == 61) text })
+    else if is_variable_name (before_first (λ c. c == 61) text)
+    then Some (record { name = before_first (λ c. c == 61) text; value = after_first (λ c. c == 61) text })
+    else None
 
 unfoldable pub variable_in : Data → Option Variable
 variable_in d = option_and_then variable_of (as_str d)

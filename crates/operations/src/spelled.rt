@@ -13,7 +13,7 @@ use crate::lists::{Readable, part_at, parts_at};
 use hex::FromHexError;
 use llb::{Bind, CopyFiles, Exec, FileSource, Op, Source};
 use paths::{Name, Path};
-use plain::{Bytes, Fault, Items, Mode, Owner, Sharing, Text, Variable, Variables};
+use plain::{Bytes, Fault, Items, Mode, Owner, Sharing, Text, Variable, VariableName, Variables};
 use runs::CacheUse;
 use serde_json::Value;
 use std::alloc::Global;
@@ -47,7 +47,9 @@ fn read_variable(alloc: Global, text: &str) -> Result<Variable, ReadFault>
 {
     match text.split_once('=') {
         Some((name, value)) => {
-            let name = Text::from_str(alloc, name)?;
+            let Some(name) = VariableName::new(Text::from_str(alloc, name)?) else {
+                return Err(Fault::Because(NotRead));
+            };
             let value = Text::from_str(alloc, value)?;
             Ok(Variable { name, value })
         }

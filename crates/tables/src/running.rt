@@ -7,7 +7,7 @@ use crate::reading::path_of;
 use crate::telling::{begin, text_of};
 use executor::{Executor, Fixture, Outcome, Request};
 use paths::Path;
-use plain::{Exact, Items, Memory, Sharing, Text, Variable, Variables};
+use plain::{Exact, Items, Memory, Sharing, Text, Variable, VariableName, Variables};
 use runs::{CacheUse, RunBind};
 use std::alloc::Global;
 use trees::{Cause, Meta, Tree};
@@ -101,7 +101,7 @@ fn ask(alloc: Global, request: &mut Request, script: &str) -> Result<(), Memory>
 }
 
 fn one_variable(alloc: Global) -> Result<Variables, Memory> {
-    let name = Text::from_str(alloc, "A")?;
+    let name = VariableName::of(Text::from_str(alloc, "A")?);
     let value = Text::from_str(alloc, "1")?;
     let mut rows = Vec::with_capacity(alloc, 1)?;
     rows.push(Variable { name, value })?;

@@ -2,7 +2,7 @@ use crate::spelling::lines_of;
 use expand::{ExpandFault, Reason, ReasonFault};
 use instructions::{InstructionKind, parse};
 use lines::{Line, LineFault};
-use plain::{Fault, Memory, Text, Variable};
+use plain::{Fault, Memory, Text, Variable, VariableName};
 use scopes::{Args, Scope};
 use std::alloc::Global;
 use std::hash::RandomState;
@@ -55,7 +55,9 @@ impl Stage {
     fn inherit(&mut self, alloc: Global, pair: &str) -> Result<(), Memory> {
         match pair.split_once('=') {
             Some((name, value)) => {
-                let name = Text::from_str(alloc, name)?;
+                let Some(name) = VariableName::new(Text::from_str(alloc, name)?) else {
+                    return Ok(());
+                };
                 let value = Text::from_str(alloc, value)?;
                 self.scope.set_variables(alloc, &[Variable { name, value }])
             }
