@@ -1,6 +1,7 @@
 use llb::{CopyFiles, Exec, Source};
 use paths::Path;
-use plain::Items;
+use plain::{Exact, Items, Memory};
+use std::alloc::Global;
 
 /// Where a tree comes from that an instruction names.
 #[derive(Drop)]
@@ -9,6 +10,23 @@ pub enum Origin {
     Source(Source),
     /// It is the tree of an earlier stage, which has this number; stages count from 0, those that aren't needed too.
     Stage(u32),
+}
+
+impl Exact for Origin {
+    fn same(&self, other: &Origin) -> bool {
+        match (self, other) {
+            (Origin::Source(source), Origin::Source(other_source)) => source.same(other_source),
+            (Origin::Stage(number), Origin::Stage(other_number)) => number == other_number,
+            _ => false,
+        }
+    }
+
+    fn copy(&self, alloc: Global) -> Result<Origin, Memory> {
+        match self {
+            Origin::Source(source) => Ok(Origin::Source(source.copy(alloc)?)),
+            Origin::Stage(number) => Ok(Origin::Stage(*number)),
+        }
+    }
 }
 
 /// What an instruction does to its stage's tree.
