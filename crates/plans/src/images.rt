@@ -2,7 +2,7 @@ ghost use Rattle.std.specs.Prelude.{◌≡◌, IfOk, OnOk, OnErr, option_copied,
 ghost use Rattle.std.specs.FinMap.{empty, entries, get, insert};
 
 use crate::sorted::Sorted;
-use plain::{Memory, Text};
+use plain::{Exact, Memory, Text, with_copy};
 use std::alloc::Global;
 use std::marker::Model;
 use trees::Tree;
@@ -12,6 +12,17 @@ use trees::Tree;
 pub struct Image<C> {
     pub config: C,
     pub tree: Tree,
+}
+
+impl<C: Exact + Drop> Exact for Image<C> {
+    fn same(&self, other: &Image<C>) -> bool {
+        self.config.same(&other.config) && self.tree.same(&other.tree)
+    }
+
+    fn copy(&self, alloc: Global) -> Result<Image<C>, Memory> {
+        let (config, tree) = with_copy(alloc, self.config.copy(alloc)?, &self.tree)?;
+        Ok(Image { config, tree })
+    }
 }
 
 /// The images that a build may name.
@@ -65,5 +76,15 @@ impl<C: Drop> Images<C> {
     {
         let Images { images } = self;
         images.into_rows()
+    }
+}
+
+impl<C: Exact + Drop> Images<C> {
+    /// Equal images of their own, whose trees are shared.
+    pub fn copy(&self, alloc: Global) -> Result<Images<C>, Memory>
+        ensures { IfOk result (λ copied. copied ≡ self.now) }
+    {
+        let images = self.images.copy(alloc)?;
+        Ok(Images { images })
     }
 }

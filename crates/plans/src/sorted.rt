@@ -5,7 +5,7 @@ ghost use Rattle.std.specs.FinMap.{empty, entries, get, insert};
 ghost use Rattle.std.specs.FinMap.Entries.{is_sorted};
 ghost use Rattle.plans.specs.PrivateSorted.{falling, StandsAt, GoesAt};
 
-use plain::{Memory, Text};
+use plain::{Exact, Memory, Text, with_copy};
 use std::alloc::Global;
 use std::cmp::Ordering;
 use std::marker::Model;
@@ -79,6 +79,27 @@ impl<V: Drop> Sorted<V> {
             }
         }
     }
+}
+
+impl<V: Exact + Drop> Sorted<V> {
+    /// An equal list of its own.
+    pub(crate) fn copy(&self, alloc: Global) -> Result<Sorted<V>, Memory>
+        ensures { IfOk result (λ copied. copied ≡ self.now) }
+    {
+        let rows = copied_rows(alloc, self.rows.as_slice())?;
+        Ok(Sorted { rows })
+    }
+}
+
+/// A copy of each row, in order.
+fn copied_rows<V: Exact + Drop>(alloc: Global, rows: &[(Text, V)]) -> Result<Vec<(Text, V)>, Memory>
+    ensures { IfOk result (λ copied. copied.items ≡ rows.now) }
+{
+    let mut copied = Vec::with_capacity(alloc, rows.len())?;
+    for row in rows {
+        copied.push(with_copy(alloc, row.0.copy(alloc)?, &row.1)?)?;
+    }
+    Ok(copied)
 }
 
 /// Where a name stands among names that fall, or where it would stand. The last row is looked at first: mostly a name that is added comes
