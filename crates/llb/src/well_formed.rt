@@ -68,9 +68,9 @@ impl Op {
     /// Whether the operation is well formed on that many inputs: what the vertices of a graph are.
     ///
     /// A source has none, and an image's name isn't empty and not `scratch`. A command has a first input and one for each bind, a
-    /// word, an environment without a name twice, and mounts that can be mounted together, no cache twice among them. A copy has a source, no malformed pattern, a first input, and a second one exactly where a source is a
-    /// pattern. Making
-    /// directories has one input, and a merge two at least.
+    /// word, an environment without a name twice, and mounts that can be mounted together, no cache twice among them. A copy has a
+    /// source, no malformed pattern, a first input, and a second one exactly where a source is a pattern. Making directories has one
+    /// input, and a merge two at least.
     pub fn is_well_formed(&self, alloc: Global, inputs: usize) -> Result<bool, Memory>
         ensures { IfOk result (λ answer. answer ≡ is_well_formed_on self.now inputs) }
     {

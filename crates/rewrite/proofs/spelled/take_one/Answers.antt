@@ -27,7 +27,7 @@ add_all-requires-clause-inputs c =
     All-weaker (λ i. i < there.0) (λ i. i < length vs) (λ i lt. omega (arith, lt, within)) news (c.vertices.ensures.graph.vertices.after there.0 (merge_on news) there.1)
 
 pub add_all-requires-clause-well_formed : goal.add_all-requires-clause-well_formed
-add_all-requires-clause-well_formed c =
+add_all-requires-clause-well_formed c named =
     let news = c.rename-inputs.result in
     let vs = c.args.graph.now.vertices in
     let among : Contains vs (merge_on news) = subst (λ (vs : List Vertex). Contains vs (merge_on news)) c.vertices.ensures.value (c.stands.ensures.0 c.if-not-stands.false) in
