@@ -37,7 +37,9 @@ use Rattle.rows.specs.WellFormed.{IsAction}
 use Rattle.rows.specs.declared.row.Origin.{Origin}
 use Rattle.runs.specs.Run.{mounts_fit, ids_differ}
 use Rattle.runs.specs.declared.run.CacheUse.{CacheUse}
-use Rattle.scopes.specs.Scope.{run_env, names_of, names_differ, is_environment_name, value_in}
+use Rattle.plain.specs.Variable.{names_of}
+use Rattle.plain.specs.VariableName.{is_variable_name}
+use Rattle.scopes.specs.Scope.{run_env, names_differ, value_in}
 use Rattle.scopes.specs.declared.declaration.Declaration.{Declaration}
 use Rattle.actions.proofs.LimitFacts.{neither}
 use Rattle.actions.specs.Texts.{is_within}
@@ -77,7 +79,7 @@ differ-same : (names : List (List ℕ)) → ids_differ names ≡ names_differ na
 differ-same [] = refl
 differ-same (name ∷ names) = ap (λ b. not (list_any (bytes_eq name) names) && b) (differ-same names)
 
-is_proper : (scope : List Declaration) → names_differ (names_of (run_env scope)) ≡ true → list_all is_environment_name (names_of (run_env scope)) ≡ true → is_environment (run_env scope) ≡ true
+is_proper : (scope : List Declaration) → names_differ (names_of (run_env scope)) ≡ true → list_all is_variable_name (names_of (run_env scope)) ≡ true → is_environment (run_env scope) ≡ true
 is_proper scope differ fit =
     both_hold _ _ (sym (list_all-map is_variable_name (λ v. v.name) (run_env scope)) ∙ fit) (differ-same (names_of (run_env scope)) ∙ differ)
 
@@ -126,7 +128,7 @@ pub run_is_action : (scope : List Declaration) (dir : List (List ℕ)) (user : L
     → IsInstruction (Run mounts command)
     → length origins ≡ count_by (λ mount. is_bind mount.kind) mounts
     → names_differ (names_of (run_env scope)) ≡ true
-    → list_all is_environment_name (names_of (run_env scope)) ≡ true
+    → list_all is_variable_name (names_of (run_env scope)) ≡ true
     → least (run_due dir mounts) ≡ None
     → IsAction (run_action scope dir user shell mounts command origins)
 run_is_action scope dir user shell mounts command origins whole count names_apart names_fit none =

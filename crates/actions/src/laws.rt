@@ -13,7 +13,8 @@ ghost use Rattle.options.specs.declared.copy.CopyFlags.{CopyFlags};
 ghost use Rattle.options.specs.declared.mount.Mount.{Mount};
 ghost use Rattle.rows.specs.WellFormed.{IsAction};
 ghost use Rattle.rows.specs.declared.row.Origin.{Origin};
-ghost use Rattle.scopes.specs.Scope.{names_in, is_environment_name};
+ghost use Rattle.plain.specs.VariableName.{is_variable_name};
+ghost use Rattle.scopes.specs.Scope.{names_in};
 ghost use Rattle.scopes.specs.declared.declaration.Declaration.{Declaration};
 ghost use Rattle.actions.specs.Copy.{copy_action, copy_due, copy_fault};
 ghost use Rattle.actions.specs.Run.{is_bind, run_action, run_due};
@@ -28,7 +29,7 @@ pub fn runs_are_well_formed()
     ensures { (scope : List Declaration) (dir : List (List ℕ)) (user : List ℕ) (shell : List (List ℕ)) (mounts : List Mount) (command : Command) (origins : List Origin)
         → IsInstruction (Run mounts command)
         → length origins ≡ count_by (λ mount. is_bind mount.kind) mounts
-        → list_all is_environment_name (names_in scope) ≡ true
+        → list_all is_variable_name (names_in scope) ≡ true
         → least (run_due dir mounts) ≡ None
         → IsAction (run_action scope dir user shell mounts command origins) }
 {

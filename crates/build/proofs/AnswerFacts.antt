@@ -12,7 +12,7 @@ use Rattle.plans.specs.Images.{ImagesValue}
 use Rattle.rows.specs.Rows.{Rows}
 use Rattle.plans.specs.Sources.{SourcesValue}
 use Rattle.plans.specs.Value.{Out}
-use Rattle.instructions.specs.declared.instruction.Instruction.{Instruction}
+use Rattle.instructions.specs.Instruction.{Instruction}
 use Rattle.dockerfile.specs.Dockerfile.{AreInstructions, IsRefused}
 use Rattle.stages.specs.Naming.{names_in}
 use Rattle.stages.specs.Resolved.{resolved}

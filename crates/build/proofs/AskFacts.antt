@@ -5,7 +5,7 @@ use Rattle.plain.specs.declared.fault.Fault.{Fault}
 use Rattle.plain.specs.declared.fault.Fault.TheVariants.{Because, Memory}
 use Rattle.plain.specs.declared.refusal.Refusal.{Refusal}
 use Rattle.expand.specs.declared.reason.Rejection.{Rejection}
-use Rattle.instructions.specs.declared.instruction.Instruction.{Instruction}
+use Rattle.instructions.specs.Instruction.{Instruction}
 use Rattle.dockerfile.specs.Dockerfile.{IsRead}
 use Rattle.stages.specs.Naming.{names_in}
 use Rattle.stages.specs.Resolved.{resolved, Returns as Resolves}

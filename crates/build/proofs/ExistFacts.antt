@@ -16,7 +16,7 @@ use Rattle.plans.specs.Value.{Out, World}
 use Rattle.rows.specs.Rows.{Rows}
 use Rattle.rows.specs.WellFormed.{IsWellFormed, RowNames, HasTree}
 use Rattle.rows.specs.declared.row.Stage.{Stage}
-use Rattle.instructions.specs.declared.instruction.Instruction.{Instruction}
+use Rattle.instructions.specs.Instruction.{Instruction}
 use Rattle.dockerfile.specs.Dockerfile.{AreInstructions, IsRefused, IsDockerfile}
 use Rattle.scopes.specs.Evaluate.{Values}
 use Rattle.stages.specs.Naming.{Known, names_in}

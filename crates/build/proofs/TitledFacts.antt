@@ -7,7 +7,7 @@ use Rattle.plain.specs.declared.refusal.Refusal.{Refusal}
 use Rattle.expand.specs.declared.reason.Rejection.{Rejection}
 use Rattle.lines.specs.Text.{AreLines}
 use Rattle.lines.specs.declared.line.Line.{Line}
-use Rattle.instructions.specs.declared.instruction.Instruction.{Instruction}
+use Rattle.instructions.specs.Instruction.{Instruction}
 use Rattle.dockerfile.specs.Dockerfile.{AreSpelled, IsRead, IsReadWithLines}
 use Rattle.stages.specs.Naming.{names_in}
 use Rattle.stages.specs.Before.{stage_names}

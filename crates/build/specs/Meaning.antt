@@ -9,7 +9,7 @@ use Rattle.expand.specs.declared.reason.Rejection.{Rejection}
 use Rattle.trees.specs.TreeMap.{TreeMap}
 use Rattle.trees.specs.declared.cause.Cause.{Cause}
 use Rattle.plans.specs.Value.{Out}
-use Rattle.instructions.specs.declared.instruction.Instruction.{Instruction}
+use Rattle.instructions.specs.Instruction.{Instruction}
 use Rattle.dockerfile.specs.Dockerfile.{AreInstructions, IsRefused}
 use Rattle.stages.specs.Naming.{names_in}
 use Rattle.stages.specs.Resolved.{resolved}

@@ -5,7 +5,7 @@ use Rattle.plain.specs.declared.fault.Fault.{Fault}
 use Rattle.expand.specs.declared.reason.Rejection.{Rejection}
 use Rattle.lines.specs.Text.{AreLines}
 use Rattle.lines.specs.declared.line.Line.{Line}
-use Rattle.instructions.specs.declared.instruction.Instruction.{Instruction}
+use Rattle.instructions.specs.Instruction.{Instruction}
 use Rattle.dockerfile.specs.Dockerfile.{AreSpelled}
 use Rattle.stages.specs.Naming.{names_in}
 use Rattle.stages.specs.Before.{stage_names}

@@ -8,7 +8,7 @@ use Rattle.plain.specs.declared.memory.Memory.{Memory}
 use Rattle.plain.specs.declared.refusal.Refusal.{Refusal}
 use Rattle.expand.specs.Reasons.{rejection_of}
 use Rattle.expand.specs.declared.reason.Rejection.{Rejection}
-use Rattle.instructions.specs.declared.instruction.Instruction.{Instruction}
+use Rattle.instructions.specs.Instruction.{Instruction}
 use Rattle.dockerfile.specs.Dockerfile.{AreInstructions}
 use Rattle.dockerfile.specs.Faults.{AreFaults, IsChecked}
 use Rattle.scopes.specs.Evaluate.{Values}

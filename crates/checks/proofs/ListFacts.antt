@@ -11,7 +11,7 @@ use Rattle.trees.specs.TreeMap.{TreeMap}
 use Rattle.ignorefile.specs.File.{ignore_of}
 use Rattle.ignorefile.specs.declared.line.Line.{Line}
 use Rattle.plans.specs.Images.{ImagesValue}
-use Rattle.instructions.specs.declared.instruction.Instruction.{Instruction}
+use Rattle.instructions.specs.Instruction.{Instruction}
 use Rattle.dockerfile.specs.Dockerfile.{AreInstructions, IsRefused, IsDockerfile}
 use Rattle.dockerfile.specs.Faults.{AreFaults}
 use Rattle.scopes.specs.Evaluate.{Values}

@@ -19,7 +19,7 @@ use Rattle.lines.proofs.NumberLemmas.{AreNumbered, lines_numbered}
 use Rattle.instructions.specs.Least.{least}
 use Rattle.instructions.specs.Instruction.{IsInstruction}
 use Rattle.instructions.specs.Parsing.{is_due, Spells, IsParsed}
-use Rattle.instructions.specs.declared.instruction.Instruction.{Instruction}
+use Rattle.instructions.specs.Instruction.{Instruction}
 use Rattle.instructions.proofs.InstructionLaws.{spelled_is_whole}
 use Rattle.dockerfile.specs.Dockerfile.{AreSpelled, IsSound, IsFirstDue, AreInstructions, IsRefused, AscendBelow, IsDockerfile}
 use Rattle.dockerfile.specs.PrivateDockerfile.{AreParsed}

@@ -16,7 +16,7 @@ use Rattle.lines.proofs.TextLaws as lines_answer
 use Rattle.lines.proofs.NumberLemmas.{AreNumbered, lines_numbered}
 use Rattle.instructions.specs.Least.{least}
 use Rattle.instructions.specs.Parsing.{is_due, Spells, IsParsed}
-use Rattle.instructions.specs.declared.instruction.Instruction.{Instruction}
+use Rattle.instructions.specs.Instruction.{Instruction}
 use Rattle.dockerfile.specs.Dockerfile.{AreSpelled, IsSound, IsFirstDue, AreInstructions, IsRefused}
 use Rattle.dockerfile.specs.Faults.{refusal_of, refusals_of, AreFaults, RefusalsBelow, AreInOrder}
 use Rattle.dockerfile.specs.PrivateDockerfile.{Adds}

@@ -1,6 +1,7 @@
 -- What a whole text gives: its instructions, or why it is refused.
 use Rattle.std.specs.Prelude.{◌≡◌, ◌<◌, ◌≤◌, ◌⊎◌, ℕ, List, [], ◌∷◌, ◌++◌, length, None, Some, Result, Ok, Err}
 use Rattle.std.specs.List.{All, AllZip}
+use Rattle.std.specs.declared.vec.Vec.{Vec}
 use Rattle.plain.specs.Limits.{most_lines, most_line_number}
 use Rattle.plain.specs.declared.fault.Fault.{Fault}
 use Rattle.plain.specs.declared.fault.Fault.TheVariants.{Because, Memory}
@@ -11,7 +12,7 @@ use Rattle.lines.specs.declared.line.Line.{Line}
 use Rattle.instructions.specs.Instruction.{IsInstruction}
 use Rattle.instructions.specs.Least.{least}
 use Rattle.instructions.specs.Parsing.{is_due, Spells}
-use Rattle.instructions.specs.declared.instruction.Instruction.{Instruction}
+use Rattle.instructions.specs.Instruction.{Instruction}
 
 -- these lines spell these instructions, one each, in their order (Dockerfile reference)
 abbrev pub AreSpelled : List Line → List Instruction → Type 0
@@ -63,3 +64,12 @@ pub record IsDockerfile (instructions : List Instruction) : Type 0 where
   pub whole : All (λ i. IsInstruction i.kind) instructions
   pub ascend : AscendBelow 0 instructions
   pub few : length instructions ≤ most_lines
+
+-- instructions stand as those of a Dockerfile do: their lines ascend from 1 on, and there are no more of them than it may have lines (own)
+abbrev pub StandInOrder : List Instruction → Type 0
+StandInOrder instructions = AscendBelow 0 instructions × (length instructions ≤ most_lines)
+
+-- what making a Dockerfile of instructions answers: they are its instructions if they stand so, and are given back if they don't
+abbrev pub IsMade : {A : Type 0} → List Instruction → Result (List Instruction) (Vec Instruction A) → Type 0
+IsMade instructions (Ok made) = (made ≡ instructions) × StandInOrder instructions
+IsMade instructions (Err back) = (back.items ≡ instructions) × (¬ (StandInOrder instructions))

@@ -9,7 +9,7 @@ use Rattle.lines.specs.Text as lines_of
 use Rattle.lines.specs.declared.line.Line.{Line}
 use Rattle.instructions.specs.Least.{least}
 use Rattle.instructions.specs.Parsing.{is_due}
-use Rattle.instructions.specs.declared.instruction.Instruction.{Instruction}
+use Rattle.instructions.specs.Instruction.{Instruction}
 use Rattle.dockerfile.specs.Dockerfile.{AreInstructions}
 
 -- the refusal that is due for a line, where it spells no instruction: the line's number, with the least of the codes that are due for it

@@ -6,7 +6,7 @@ use Rattle.plain.specs.declared.refusal.Refusal.{Refusal}
 use Rattle.lines.specs.Text.{AreLines}
 use Rattle.lines.specs.declared.line.Line.{Line}
 use Rattle.std.specs.declared.vec.Vec.{Vec}
-use Rattle.instructions.specs.declared.instruction.Instruction.{Instruction}
+use Rattle.instructions.specs.Instruction.{Instruction}
 use Rattle.dockerfile.specs.Dockerfile.{AreSpelled, IsFirstDue}
 use Rattle.dockerfile.specs.Faults.{refusals_of, AreFaults}
 

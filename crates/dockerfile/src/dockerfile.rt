@@ -1,8 +1,9 @@
 ghost use Rattle.std.specs.Prelude.{◌≡◌};
-ghost use Rattle.dockerfile.specs.Dockerfile.{IsDockerfile, IsRead, IsReadWithLines};
+ghost use Rattle.dockerfile.specs.Dockerfile.{IsDockerfile, IsMade, IsRead, IsReadWithLines};
 ghost use Rattle.dockerfile.specs.Faults.{IsChecked};
 
 use crate::checking::{all_spelled, lines_or_faults};
+use crate::order::stand_in_order;
 use crate::reading::{logical_lines, spelled};
 use instructions::Instruction;
 use lines::{Line, LineFault};
@@ -21,7 +22,7 @@ pub struct Dockerfile {
 impl Model for Dockerfile {
     ghost use Rattle.std.specs.Prelude.{List};
     ghost use Rattle.std.specs.Coded.{coded_list};
-    ghost use Rattle.instructions.specs.declared.instruction.Instruction.{Instruction};
+    ghost use Rattle.instructions.specs.Instruction.{Instruction};
     ghost use Rattle.instructions.specs.contracts.instruction.Instruction as instruction;
 
     ghost Value = { List Instruction };
@@ -77,6 +78,21 @@ impl Dockerfile {
         let lines = lines_or_faults(alloc, text)?;
         let instructions = all_spelled(alloc, lines)?;
         Ok(Dockerfile { instructions })
+    }
+
+    /// The Dockerfile of a list of instructions that somebody made by `parse`, line by line.
+    ///
+    /// It is one exactly if the lines of the instructions ascend from 1 on, none is above 1,048,576, and there are at most 4,096 of them; else
+    /// the list is given back. It takes no memory.
+    pub fn from_vec(instructions: Vec<Instruction>) -> Result<Dockerfile, Vec<Instruction>>
+        ensures { IsMade instructions.items result }
+    {
+        if !stand_in_order(&instructions) {
+            return Err(instructions);
+        }
+        Ok(Dockerfile {
+            instructions: Items::from_vec(instructions),
+        })
     }
 
     /// The instructions, lent.

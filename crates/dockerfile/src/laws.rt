@@ -2,7 +2,7 @@
 
 ghost use Rattle.std.specs.Prelude.{◌≡◌, ◌⊎◌, [], ◌∷◌, ℕ, List, None};
 ghost use Rattle.plain.specs.declared.refusal.Refusal.{Refusal};
-ghost use Rattle.instructions.specs.declared.instruction.Instruction.{Instruction};
+ghost use Rattle.instructions.specs.Instruction.{Instruction};
 ghost use Rattle.lines.specs.declared.line.Line.{Line};
 ghost use Rattle.instructions.specs.Parsing.{Spells};
 ghost use Rattle.dockerfile.specs.Dockerfile.{AreInstructions, IsRefused, IsDockerfile};

@@ -9,12 +9,14 @@
 // ```
 // let file = Dockerfile::read(alloc, b"FROM scratch\nRUN a\n")?;
 // file.instructions().len()              // 2
+// let again = Dockerfile::from_vec(file.into_instructions().into_vec());   // the same file
 // ```
 #![tactic(auto)]
 
 mod checking;
 mod dockerfile;
 pub mod laws;
+mod order;
 mod reading;
 
 pub use dockerfile::Dockerfile;

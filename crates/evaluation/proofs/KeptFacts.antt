@@ -26,7 +26,8 @@ use Rattle.instructions.specs.Reason.{reason}
 use Rattle.instructions.specs.declared.instruction.InstructionKind.{InstructionKind}
 use Rattle.instructions.specs.declared.instruction.InstructionKind.TheVariants.{From, Arg, Env, Label, Expose, User, Workdir, StopSignal, Volume, Shell, Cmd, Entrypoint, Run, Copy}
 use Rattle.scopes.specs.Evaluate.{Values, env_line, arg_line}
-use Rattle.scopes.specs.Scope.{value_in, kept, names_in, name_of, is_environment_name}
+use Rattle.plain.specs.VariableName.{is_variable_name}
+use Rattle.scopes.specs.Scope.{value_in, kept, names_in, name_of}
 use Rattle.scopes.specs.declared.declaration.Declaration.{Declaration}
 use Rattle.stages.specs.Naming.{Reference, mount_reference, references}
 use Rattle.stages.specs.Table.{IsResolved}
@@ -88,21 +89,21 @@ second_true : (a b : Bool) → (a && b) ≡ true → b ≡ true
 second_true true b h = h
 second_true false b h = absurd (true≢false (sym h))
 
-all_fit : (laws : Laws) (names : List (List ℕ)) → list_all is_name names ≡ true → list_all is_environment_name names ≡ true
+all_fit : (laws : Laws) (names : List (List ℕ)) → list_all is_name names ≡ true → list_all is_variable_name names ≡ true
 all_fit laws [] h = refl
 all_fit laws (n ∷ ns) h =
-    both_true (is_environment_name n) (list_all is_environment_name ns)
+    both_true (is_variable_name n) (list_all is_variable_name ns)
     (laws.names_fit n (first_true (is_name n) (list_all is_name ns) h))
     (all_fit laws ns (second_true (is_name n) (list_all is_name ns) h))
 
 names_more : (laws : Laws) (scope line : List Declaration) (names : List (List ℕ)) → names_in line ≡ names → list_all is_name names ≡ true
-    → list_all is_environment_name (names_in scope) ≡ true → list_all is_environment_name (names_in (kept (scope ++ line))) ≡ true
+    → list_all is_variable_name (names_in scope) ≡ true → list_all is_variable_name (names_in (kept (scope ++ line))) ≡ true
 names_more laws scope line names is fit h =
-    laws.kept_names is_environment_name (scope ++ line)
-    (ap (list_all is_environment_name) (map-append name_of scope line)
-    ∙ (list_all-append is_environment_name (names_in scope) (names_in line)
-    ∙ both_true (list_all is_environment_name (names_in scope)) (list_all is_environment_name (names_in line)) h
-    (ap (list_all is_environment_name) is ∙ all_fit laws names fit)))
+    laws.kept_names is_variable_name (scope ++ line)
+    (ap (list_all is_variable_name) (map-append name_of scope line)
+    ∙ (list_all-append is_variable_name (names_in scope) (names_in line)
+    ∙ both_true (list_all is_variable_name (names_in scope)) (list_all is_variable_name (names_in line)) h
+    (ap (list_all is_variable_name) is ∙ all_fit laws names fit)))
 
 names_after : (laws : Laws) (args outer : Values) (s : State) (kind : InstructionKind) → IsInstruction kind → HasNames s → HasNames (after args outer s kind)
 names_after laws args outer s (From image name) whole h = h

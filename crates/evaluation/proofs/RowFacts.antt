@@ -22,7 +22,8 @@ use Rattle.rows.specs.declared.row.Origin.TheVariants.{Source as SourceOf, Stage
 use Rattle.rows.specs.declared.row.Stage.{Stage}
 use Rattle.rows.specs.declared.row.Step.{Step}
 use Rattle.scopes.specs.Evaluate.{Values, declaration_of}
-use Rattle.scopes.specs.Scope.{kept, names_in, is_environment_name}
+use Rattle.plain.specs.VariableName.{is_variable_name}
+use Rattle.scopes.specs.Scope.{kept, names_in}
 use Rattle.stages.specs.Needed.{origins_in, stage_origins}
 use Rattle.stages.specs.Table.{IsBefore, IsResolved, IsStage, stage_lines, lines_of}
 use Rattle.instructions.specs.Reason.{reason}
@@ -123,7 +124,7 @@ declared_names (row ∷ rows) = ap (λ ns. row.0 ∷ ns) (declared_names rows)
 
 image_names : Laws → (config : Config) → IsEnvironment config.env → HasNames (image_state config)
 image_names laws config is =
-    laws.kept_names is_environment_name (map declaration_of (variables_of config.env)) (ap (list_all is_environment_name) (declared_names config.env) ∙ is.fit)
+    laws.kept_names is_variable_name (map declaration_of (variables_of config.env)) (ap (list_all is_variable_name) (declared_names config.env) ∙ is.fit)
 
 found_names : Laws → (found : Option (image.Image Config)) → HasFoundNames found → HasNames (found_state found)
 found_names laws None is = refl

@@ -9,7 +9,8 @@ use Rattle.plans.specs.declared.images.Image as image
 use Rattle.rows.specs.declared.row.Origin.{Origin}
 use Rattle.rows.specs.declared.row.Origin.TheVariants.{Source as SourceOf, Stage as StageOf}
 use Rattle.instructions.specs.Instruction.{IsInstruction}
-use Rattle.scopes.specs.Scope.{names_in, is_environment_name}
+use Rattle.plain.specs.VariableName.{is_variable_name}
+use Rattle.scopes.specs.Scope.{names_in}
 use Rattle.stages.specs.declared.stage.ResolvedInstruction.{ResolvedInstruction}
 use Rattle.stages.specs.declared.stage.ResolvedStage.{ResolvedStage}
 use Rattle.imageconfig.specs.Environment.{IsEnvironment}
@@ -18,7 +19,7 @@ use Rattle.evaluation.specs.declared.state.State.{State}
 
 -- all names that are declared are such
 abbrev pub HasNames : State → Type 0
-HasNames state = list_all is_environment_name (names_in state.scope) ≡ true
+HasNames state = list_all is_variable_name (names_in state.scope) ≡ true
 
 -- the names of an image's environment are such, and differ, if the image is there
 abbrev pub HasFoundNames : Option (image.Image Config) → Type 0

@@ -5,7 +5,9 @@ ghost use Rattle.instructions.specs.Instruction.{IsInstruction};
 ghost use Rattle.instructions.specs.Least.{Meets};
 ghost use Rattle.instructions.specs.Reason.{Evaluates};
 ghost use Rattle.instructions.specs.declared.instruction.InstructionKind.TheVariants as spelled;
-ghost use Rattle.scopes.specs.Scope.{value_in, names_of, is_environment_name};
+ghost use Rattle.plain.specs.Variable.{names_of};
+ghost use Rattle.plain.specs.VariableName.{is_variable_name};
+ghost use Rattle.scopes.specs.Scope.{value_in};
 ghost use Rattle.imageconfig.specs.Steps.{due as config_due, fault as config_fault};
 ghost use Rattle.actions.specs.Copy as of_copy;
 ghost use Rattle.actions.specs.Run as of_run;
@@ -90,7 +92,7 @@ fn declare(
 
 /// Variables in the configuration and in the scope, which hold one text of each value.
 fn set_both(alloc: Global, state: &mut State, variables: &[Variable]) -> Result<(), Memory>
-    requires { list_all is_environment_name (names_of variables.now) ≡ true }
+    requires { list_all is_variable_name (names_of variables.now) ≡ true }
     ensures { OnOk result (state.new ≡ both_set state.old variables.now) }
 {
     state.config.set_variables(alloc, variables)?;
@@ -268,12 +270,12 @@ fn leave(
     requires { IsInstruction instruction.now.kind }
     ensures { EvaluatesTo (after (arg_value given.now.args.now) (value_in given.now.outer.now) state instruction.now.kind) (left_due (arg_value given.now.args.now) state instruction.now.kind) (left_fault (arg_value given.now.args.now) state instruction.now.kind) instruction.now.line result }
 {
-    match &instruction.kind {
+    match instruction.kind() {
         InstructionKind::Arg { arguments } => {
-            declare(alloc, given, state, instruction.line, arguments.as_slice())
+            declare(alloc, given, state, instruction.line(), arguments.as_slice())
         }
         InstructionKind::Env { assignments } => {
-            set_variables(alloc, state, instruction.line, assignments.as_slice())
+            set_variables(alloc, state, instruction.line(), assignments.as_slice())
         }
         InstructionKind::From { .. }
         | InstructionKind::Label { .. }
@@ -309,7 +311,8 @@ fn finish(
 ) -> Result<Done, RejectionFault>
     ensures { EvaluatesTo (finished state instruction.kind origins) (acted_due state instruction.kind) (acted_fault state instruction.kind) instruction.line result }
 {
-    let Instruction { line, kind } = instruction;
+    let line = instruction.line();
+    let kind = instruction.into_kind();
     let mut state = state;
     if keep_env(alloc, &mut state, &kind).is_err() {
         drop(state);

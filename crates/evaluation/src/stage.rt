@@ -188,7 +188,7 @@ fn evaluate_named(
         instruction,
         origins,
     } = resolved;
-    let line = instruction.line;
+    let line = instruction.line();
     match evaluate_instruction(alloc, given, state, instruction, origins) {
         Ok(done) => advance_unless_many(steps, names, line, done),
         Err(fault) => {

@@ -17,6 +17,7 @@
 #![tactic(auto)]
 
 mod character;
+mod exact;
 mod expanding;
 mod fault;
 mod form;

@@ -10,7 +10,7 @@ use Rattle.expand.specs.Expanding.{unexpanded}
 use Rattle.expand.specs.declared.fault.Unexpanded.{Unexpanded}
 use Rattle.expand.specs.declared.reason.Rejection.{Rejection}
 use Rattle.instructions.specs.Reason.{reason}
-use Rattle.instructions.specs.declared.instruction.Instruction.{Instruction}
+use Rattle.instructions.specs.Instruction.{Instruction}
 use Rattle.instructions.specs.declared.instruction.InstructionKind.{InstructionKind}
 use Rattle.instructions.specs.declared.instruction.InstructionKind.TheVariants.{Env, Label, Expose, User, Workdir, StopSignal, Volume, Shell, Cmd, Entrypoint}
 use Rattle.scopes.specs.Evaluate.{Values, env_fault}

@@ -3,7 +3,9 @@ ghost use Rattle.std.specs.List.{list_all};
 ghost use Rattle.serde_json.specs.View.{view};
 ghost use Rattle.serde_json.specs.Written.{has_float};
 ghost use Rattle.instructions.specs.Instruction.{IsInstruction};
-ghost use Rattle.scopes.specs.Scope.{value_in, is_environment_name, names_of as variable_names};
+ghost use Rattle.plain.specs.Variable.{names_of as variable_names};
+ghost use Rattle.plain.specs.VariableName.{is_variable_name};
+ghost use Rattle.scopes.specs.Scope.{value_in};
 ghost use Rattle.strict.specs.Gives.{Gives};
 ghost use Rattle.imageconfig.specs.Reading.{plain, config_in};
 ghost use Rattle.imageconfig.specs.Writing.{config_data};
@@ -106,7 +108,7 @@ impl Config {
         alloc: Global,
         variables: &[Variable],
     ) -> Result<(), Memory>
-        requires { list_all is_environment_name (variable_names variables.now) ≡ true }
+        requires { list_all is_variable_name (variable_names variables.now) ≡ true }
         ensures ok { OnOk result (self.new ≡ with_variables self.old variables.now) }
         ensures err { OnErr result (self.new ≡ self.old) }
     {
@@ -133,11 +135,11 @@ impl Config {
         requires { IsInstruction instruction.now.kind }
         ensures { IsApplied self.old (value_in before.now) instruction.now self.new result }
     {
-        match change(alloc, self, &instruction.kind, before) {
+        match change(alloc, self, instruction.kind(), before) {
             Ok(()) => Ok(()),
             Err(Fault::Because(reason)) => Err(Fault::Because(Rejection {
                 reason,
-                line: instruction.line,
+                line: instruction.line(),
             })),
             Err(Fault::Memory) => Err(Fault::Memory),
         }

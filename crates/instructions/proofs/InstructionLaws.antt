@@ -44,7 +44,7 @@ use Rattle.instructions.specs.Run.{run_command, is_wordless}
 use Rattle.instructions.specs.Shell.{shell_words}
 use Rattle.instructions.specs.declared.instruction.Argument.{Argument}
 use Rattle.instructions.specs.declared.instruction.Assignment.{Assignment}
-use Rattle.instructions.specs.declared.instruction.Instruction.{Instruction}
+use Rattle.instructions.specs.Instruction.{Instruction}
 use Rattle.instructions.specs.declared.instruction.InstructionKind.{InstructionKind}
 use Rattle.instructions.specs.declared.instruction.InstructionKind.TheVariants as instruction
 use Rattle.instructions.specs.declared.instruction.Source.{Source}

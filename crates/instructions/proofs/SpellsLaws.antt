@@ -24,7 +24,7 @@ use Rattle.instructions.specs.Least.{least}
 use Rattle.instructions.specs.OneWord.{only_argument}
 use Rattle.instructions.specs.Parsing.{named_read, named_due, keyword_in, is_due, Spells}
 use Rattle.instructions.specs.Shell.{shell_read}
-use Rattle.instructions.specs.declared.instruction.Instruction.{Instruction}
+use Rattle.instructions.specs.Instruction.{Instruction}
 use Rattle.instructions.specs.declared.instruction.InstructionKind.{InstructionKind}
 use Rattle.instructions.specs.declared.instruction.Source.{Source}
 use Rattle.instructions.specs.declared.keyword.Keyword.{Keyword}

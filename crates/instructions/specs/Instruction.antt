@@ -1,4 +1,4 @@
--- What each instruction keeps that a line spells.
+-- An instruction, and what each keeps that a line spells.
 use Rattle.std.specs.Prelude.{◌≡◌, ◌≢◌, ◌<◌, ◌≤◌, ℕ, Bool, true, false, List, [], Some, length, map}
 use Rattle.std.specs.List.{list_all}
 use Rattle.plain.specs.Limits.{most_mounts}
@@ -12,6 +12,12 @@ use Rattle.instructions.specs.declared.instruction.Source.{Source}
 use Rattle.instructions.specs.declared.instruction.Source.TheVariants.{Files, Document}
 use Rattle.instructions.specs.declared.instruction.InstructionKind.{InstructionKind}
 use Rattle.instructions.specs.declared.instruction.InstructionKind.TheVariants.{From, Arg, Env, Label, Expose, User, Workdir, StopSignal, Volume, Shell, Cmd, Entrypoint, Run, Copy}
+
+-- an instruction of a Dockerfile: the number of its logical line's first line in the file, and which it is with its arguments (Dockerfile
+-- reference)
+pub record Instruction : Type 0 where
+  pub line : ℕ
+  pub kind : InstructionKind
 
 -- the names that ARG declares
 abbrev pub argument_names : List Argument → List (List ℕ)

@@ -13,6 +13,7 @@ pub mod Names
 pub mod OneWord
 pub mod Parsing
 pub mod PrivateCopy
+pub mod PrivateInstruction
 pub mod PrivateLent
 pub mod Reason
 pub mod Run

@@ -20,7 +20,7 @@ use Rattle.instructions.specs.Shell.{shell_read, shell_due}
 use Rattle.instructions.specs.Volume.{volume_read, volume_due}
 use Rattle.plain.specs.declared.fault.Fault.{Fault}
 use Rattle.plain.specs.declared.fault.Fault.TheVariants.{Because, Memory}
-use Rattle.instructions.specs.declared.instruction.Instruction.{Instruction}
+use Rattle.instructions.specs.Instruction.{Instruction}
 use Rattle.instructions.specs.declared.instruction.InstructionKind.{InstructionKind}
 use Rattle.instructions.specs.declared.instruction.InstructionKind.TheVariants as instruction
 use Rattle.instructions.specs.declared.keyword.Keyword.{Keyword}

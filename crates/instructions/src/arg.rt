@@ -1,6 +1,9 @@
-ghost use Rattle.std.specs.Prelude.{◌≡◌, map, IfOk};
+ghost use Rattle.std.specs.Prelude.{◌≡◌, true, map, IfOk};
+ghost use Rattle.std.specs.List.{list_all};
+ghost use Rattle.ascii.specs.Names.{is_name};
 ghost use Rattle.expand.specs.Word.{Finds};
 ghost use Rattle.instructions.specs.Arg.{argument_cut, argument_of, arguments_of, has_bad_name, arg_read, arg_due};
+ghost use Rattle.instructions.specs.Instruction.{argument_names};
 ghost use Rattle.instructions.specs.Least.{Meets};
 ghost use Rattle.instructions.specs.PrivateLent.{lent_texts, lent_argument, lent_arguments};
 
@@ -9,9 +12,42 @@ use crate::{Argument, InstructionKind};
 use ascii::is_name;
 use expand::{Kind, Word};
 use lines::Escape;
-use plain::{Code, Fault, Items, Memory, Text};
+use plain::{Code, Fault, Items, Memory, Text, VariableName};
 use std::alloc::Global;
+use std::marker::Model;
 use words::{TextFault, closed, pair, split};
+
+/// An argument whose name isn't tested yet: a line whose names are bad is refused for a bad word first. Contracts see the argument.
+#[derive(Drop)]
+struct Draft {
+    name: Text,
+    default: Option<Word>,
+}
+
+impl Model for Draft {
+    ghost use Rattle.instructions.specs.declared.instruction.Argument.{Argument};
+    ghost use Rattle.instructions.specs.contracts.instruction.Argument as argument;
+
+    ghost Value = { Argument };
+
+    ghost coded = { argument.the_row.coded };
+
+    ghost view = { λ d. record { name = d.name; default = d.default } };
+}
+
+impl Draft {
+    /// The argument, if its name is one.
+    fn named(self) -> Argument
+        requires { is_name self.name ≡ true }
+        ensures { result ≡ self }
+    {
+        let Draft { name, default } = self;
+        Argument {
+            name: VariableName::of(name),
+            default,
+        }
+    }
+}
 
 /// The name of a word of ARG, and its default where it is cut.
 fn argument_cut(word: &str) -> (&str, Option<&str>)
@@ -42,7 +78,7 @@ fn read_argument(
     alloc: Global,
     escape: Escape,
     cut: &(&str, Option<&str>),
-) -> Result<Argument, TextFault>
+) -> Result<Draft, TextFault>
     ensures { Finds (argument_of escape (lent_argument cut.now)) result }
 {
     let (name, default) = *cut;
@@ -51,7 +87,7 @@ fn read_argument(
         None => None,
     };
     let name = Text::from_str(alloc, name)?;
-    Ok(Argument { name, default })
+    Ok(Draft { name, default })
 }
 
 /// The arguments of names and defaults; R09 where a default is no word.
@@ -59,7 +95,7 @@ fn read_arguments(
     alloc: Global,
     escape: Escape,
     cuts: &[(&str, Option<&str>)],
-) -> Result<Items<Argument>, TextFault>
+) -> Result<Items<Draft>, TextFault>
     ensures { Finds (arguments_of escape (lent_arguments cuts.now)) result }
 {
     let mut found = Items::new(alloc);
@@ -68,6 +104,18 @@ fn read_arguments(
         found.push(argument)?;
     }
     Ok(found)
+}
+
+/// The arguments of drafts whose names are names.
+fn named(alloc: Global, drafts: Items<Draft>) -> Result<Items<Argument>, Memory>
+    requires { list_all is_name (argument_names drafts) ≡ true }
+    ensures { IfOk result (λ arguments. arguments ≡ drafts) }
+{
+    let mut arguments = Items::new(alloc);
+    for draft in drafts.into_vec() {
+        arguments.push(draft.named())?;
+    }
+    Ok(arguments)
 }
 
 /// Whether one of the names is none of a variable.
@@ -96,9 +144,10 @@ pub(crate) fn read_arg(
     }
     closed(escape, text)?;
     let cuts = argument_cuts(alloc, &words)?;
-    let arguments = read_arguments(alloc, escape, &cuts)?;
+    let drafts = read_arguments(alloc, escape, &cuts)?;
     if has_bad_name(&cuts) {
         return Err(Fault::Because(Code::R10));
     }
+    let arguments = named(alloc, drafts)?;
     Ok(InstructionKind::Arg { arguments })
 }

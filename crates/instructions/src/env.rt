@@ -1,7 +1,10 @@
-ghost use Rattle.std.specs.Prelude.{◌≡◌, Some, option_map, IfOk};
+ghost use Rattle.std.specs.Prelude.{◌≡◌, Some, true, option_map, IfOk};
+ghost use Rattle.std.specs.List.{list_all};
+ghost use Rattle.ascii.specs.Names.{is_name};
 ghost use Rattle.words.specs.Pairs.{pair};
 ghost use Rattle.expand.specs.Word.{Finds};
 ghost use Rattle.instructions.specs.Env.{pairs_among, pair_alone, pairs_in, has_pairs, assignment_of, assignments_of, has_bad_name, env_read, env_due};
+ghost use Rattle.instructions.specs.Instruction.{assignment_names};
 ghost use Rattle.instructions.specs.Least.{Meets};
 ghost use Rattle.instructions.specs.PrivateLent.{lent_texts, lent_pair, lent_pairs};
 
@@ -9,9 +12,42 @@ use crate::{Assignment, InstructionKind};
 use ascii::{first_piece, is_name};
 use expand::{Kind, Word};
 use lines::Escape;
-use plain::{Code, Fault, Items, Memory, Text};
+use plain::{Code, Fault, Items, Memory, Text, VariableName};
 use std::alloc::Global;
+use std::marker::Model;
 use words::{TextFault, closed, pair, split};
+
+/// An assignment whose name isn't tested yet: a line whose names are bad is refused for a bad word first. Contracts see the assignment.
+#[derive(Drop)]
+struct Draft {
+    name: Text,
+    value: Word,
+}
+
+impl Model for Draft {
+    ghost use Rattle.instructions.specs.declared.instruction.Assignment.{Assignment};
+    ghost use Rattle.instructions.specs.contracts.instruction.Assignment as assignment;
+
+    ghost Value = { Assignment };
+
+    ghost coded = { assignment.the_row.coded };
+
+    ghost view = { λ d. record { name = d.name; value = d.value } };
+}
+
+impl Draft {
+    /// The assignment, if its name is one.
+    fn named(self) -> Assignment
+        requires { is_name self.name ≡ true }
+        ensures { result ≡ self }
+    {
+        let Draft { name, value } = self;
+        Assignment {
+            name: VariableName::of(name),
+            value,
+        }
+    }
+}
 
 /// The names and values of words `name=value`, where there are any and each has an `=`.
 #[tactic(auto, using(options::proofs::ListLaws::behind_none, options::proofs::ListLaws::behind_some))]
@@ -51,17 +87,13 @@ fn pair_alone<'a>(
 }
 
 /// The assignment of a name and a value; R09 where the value is no word.
-fn read_assignment(
-    alloc: Global,
-    escape: Escape,
-    pair: &(&str, &str),
-) -> Result<Assignment, TextFault>
+fn read_assignment(alloc: Global, escape: Escape, pair: &(&str, &str)) -> Result<Draft, TextFault>
     ensures { Finds (assignment_of escape (lent_pair pair.now)) result }
 {
     let (name, value) = *pair;
     let value = Word::read(alloc, Kind::Quoted, escape, value)?;
     let name = Text::from_str(alloc, name)?;
-    Ok(Assignment { name, value })
+    Ok(Draft { name, value })
 }
 
 /// The assignments of names and values; R09 where a value is no word.
@@ -69,7 +101,7 @@ fn read_assignments(
     alloc: Global,
     escape: Escape,
     pairs: &[(&str, &str)],
-) -> Result<Items<Assignment>, TextFault>
+) -> Result<Items<Draft>, TextFault>
     ensures { Finds (assignments_of escape (lent_pairs pairs.now)) result }
 {
     let mut found = Items::new(alloc);
@@ -78,6 +110,18 @@ fn read_assignments(
         found.push(assignment)?;
     }
     Ok(found)
+}
+
+/// The assignments of drafts whose names are names.
+fn named(alloc: Global, drafts: Items<Draft>) -> Result<Items<Assignment>, Memory>
+    requires { list_all is_name (assignment_names drafts) ≡ true }
+    ensures { IfOk result (λ assignments. assignments ≡ drafts) }
+{
+    let mut assignments = Items::new(alloc);
+    for draft in drafts.into_vec() {
+        assignments.push(draft.named())?;
+    }
+    Ok(assignments)
 }
 
 /// Whether one of the names is none of a variable.
@@ -129,9 +173,10 @@ pub(crate) fn read_env(
     if has_pairs(text) {
         closed(escape, text)?;
     }
-    let assignments = read_assignments(alloc, escape, &pairs)?;
+    let drafts = read_assignments(alloc, escape, &pairs)?;
     if has_bad_name(&pairs) {
         return Err(Fault::Because(Code::R10));
     }
+    let assignments = named(alloc, drafts)?;
     Ok(InstructionKind::Env { assignments })
 }

@@ -1,13 +1,72 @@
+ghost use Rattle.std.specs.Prelude.{◌≡◌};
+ghost use Rattle.instructions.specs.Instruction.{IsInstruction};
+
 use expand::Word;
 use options::{CopyFlags, Mount};
-use plain::{Items, Text};
+use plain::{Items, Text, VariableName};
+use std::marker::Model;
 
-/// An instruction of a Dockerfile, as a logical line spells it.
-#[derive(Debug, Drop)]
+/// An instruction of a Dockerfile, as a logical line spells it: only `parse` makes one.
+///
+/// Contracts see its line's number and its kind, which is whole: `IsInstruction` in specs/Instruction.antt says what each kind keeps.
+#[derive(Debug)]
 pub struct Instruction {
+    line: u32,
+    kind: InstructionKind,
+}
+
+/// An instruction ends by a call, so that no proof above goes by which kind it is at each place where one is let go.
+impl Drop for Instruction {
+    fn drop(self) {
+        let Instruction { line: _, kind: _ } = self;
+    }
+}
+
+impl Model for Instruction {
+    ghost use Rattle.instructions.specs.Instruction.{Instruction, IsInstruction};
+    ghost use Rattle.instructions.specs.PrivateInstruction.{instruction_code};
+
+    ghost Value = { Instruction };
+
+    ghost coded = { instruction_code };
+
+    ghost view = { λ i. record { line = i.line; kind = i.kind } };
+
+    ghost invariant = { λ i. IsInstruction i.kind };
+}
+
+impl Instruction {
+    /// The instruction of a line, whose kind is whole.
+    pub(crate) fn new(line: u32, kind: InstructionKind) -> Instruction
+        requires { IsInstruction kind }
+        ensures { result ≡ record { line = line; kind = kind } }
+    {
+        Instruction { line, kind }
+    }
+
     /// The logical line's number: that of its first line in the file, from 1 on.
-    pub line: u32,
-    pub kind: InstructionKind,
+    pub fn line(&self) -> u32
+        ensures { result ≡ self.now.line }
+    {
+        self.line
+    }
+
+    /// Which instruction it is, lent.
+    pub fn kind(&self) -> &InstructionKind
+        ensures kind { result.now ≡ self.now.kind }
+        ensures whole { IsInstruction self.now.kind }
+    {
+        &self.kind
+    }
+
+    /// Which instruction it is. It takes no memory.
+    pub fn into_kind(self) -> InstructionKind
+        ensures kind { result ≡ self.kind }
+        ensures whole { IsInstruction result }
+    {
+        let Instruction { line: _, kind } = self;
+        kind
+    }
 }
 
 /// Which instruction it is, with its arguments.
@@ -82,7 +141,7 @@ pub enum InstructionKind {
 #[derive(Debug, Drop)]
 pub struct Argument {
     /// A letter or `_` followed by letters, digits and `_`.
-    pub name: Text,
+    pub name: VariableName,
     pub default: Option<Word>,
 }
 
@@ -90,7 +149,7 @@ pub struct Argument {
 #[derive(Debug, Drop)]
 pub struct Assignment {
     /// A letter or `_` followed by letters, digits and `_`.
-    pub name: Text,
+    pub name: VariableName,
     pub value: Word,
 }
 

@@ -9,7 +9,7 @@ ghost use Rattle.instructions.specs.Instruction.{IsInstruction};
 ghost use Rattle.instructions.specs.Least.{least, IsLeast};
 ghost use Rattle.instructions.specs.Reason.{reason, IsReason, IsLeastReason};
 ghost use Rattle.instructions.specs.Parsing.{is_due, Spells};
-ghost use Rattle.instructions.specs.declared.instruction.Instruction.{Instruction};
+ghost use Rattle.instructions.specs.Instruction.{Instruction};
 
 /// A line spells one instruction at most.
 pub fn a_line_spells_one()

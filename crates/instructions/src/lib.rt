@@ -21,6 +21,7 @@ mod arg;
 mod command;
 mod copy;
 mod env;
+mod exact;
 mod expanded;
 mod expose;
 mod from;

@@ -39,7 +39,7 @@ pub fn parse(alloc: Global, line: &Line) -> Result<Instruction, LineFault>
     let (name, rest) = first_piece(line.text.as_str());
     let number = line.number;
     match read(alloc, keyword_of(name), line, rest) {
-        Ok(kind) => Ok(Instruction { line: number, kind }),
+        Ok(kind) => Ok(Instruction::new(number, kind)),
         Err(Fault::Because(code)) => {
             let refusal = Refusal { code, line: number };
             Err(Fault::Because(refusal))

@@ -24,6 +24,27 @@ pub struct CopyFlags {
     pub is_linked: bool,
 }
 
+impl Exact for CopyFlags {
+    fn same(&self, other: &CopyFlags) -> bool {
+        self.from.same(&other.from)
+            && self.owner.same(&other.owner)
+            && self.mode.same(&other.mode)
+            && self.is_linked == other.is_linked
+    }
+
+    fn copy(&self, alloc: Global) -> Result<CopyFlags, Memory> {
+        let from = self.from.copy(alloc)?;
+        let owner = self.owner.copy(alloc)?;
+        let mode = self.mode.copy(alloc)?;
+        Ok(CopyFlags {
+            from,
+            owner,
+            mode,
+            is_linked: self.is_linked,
+        })
+    }
+}
+
 /// Whether a flag has a name.
 fn is_named(name: &str, flag: &Flag) -> bool
     ensures { result ≡ is_named name.now flag.now }

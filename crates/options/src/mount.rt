@@ -8,7 +8,7 @@ ghost use Rattle.options.specs.PrivateMount.{parts, bytes_left};
 
 use crate::item::{Item, Key, copy_value, has_twice, value_at};
 use crate::value::{is_filled, is_truth};
-use plain::{Items, Memory, Sharing, Text};
+use plain::{Exact, Items, Memory, Sharing, Text};
 use std::alloc::{AllocError, Global};
 use words::{Flag, pair};
 
@@ -38,6 +38,74 @@ pub enum MountKind {
         id: Option<Text>,
         sharing: Sharing,
     },
+}
+
+impl Exact for MountKind {
+    fn same(&self, other: &MountKind) -> bool {
+        match (self, other) {
+            (
+                MountKind::Bind {
+                    source,
+                    from,
+                    is_writable,
+                },
+                MountKind::Bind {
+                    source: other_source,
+                    from: other_from,
+                    is_writable: is_other_writable,
+                },
+            ) => {
+                source.same(other_source)
+                    && from.same(other_from)
+                    && is_writable.same(is_other_writable)
+            }
+            (
+                MountKind::Cache { id, sharing },
+                MountKind::Cache {
+                    id: other_id,
+                    sharing: other_sharing,
+                },
+            ) => id.same(other_id) && sharing.same(other_sharing),
+            _ => false,
+        }
+    }
+
+    fn copy(&self, alloc: Global) -> Result<MountKind, Memory> {
+        match self {
+            MountKind::Bind {
+                source,
+                from,
+                is_writable,
+            } => {
+                let source = source.copy(alloc)?;
+                let from = from.copy(alloc)?;
+                Ok(MountKind::Bind {
+                    source,
+                    from,
+                    is_writable: *is_writable,
+                })
+            }
+            MountKind::Cache { id, sharing } => {
+                let id = id.copy(alloc)?;
+                Ok(MountKind::Cache {
+                    id,
+                    sharing: *sharing,
+                })
+            }
+        }
+    }
+}
+
+impl Exact for Mount {
+    fn same(&self, other: &Mount) -> bool {
+        self.target.same(&other.target) && self.kind.same(&other.kind)
+    }
+
+    fn copy(&self, alloc: Global) -> Result<Mount, Memory> {
+        let target = self.target.copy(alloc)?;
+        let kind = self.kind.copy(alloc)?;
+        Ok(Mount { target, kind })
+    }
 }
 
 /// Whether a name is that of a mount's target.

@@ -7,7 +7,7 @@ use Rattle.expand.specs.declared.reason.Rejection.{Rejection}
 use Rattle.runs.specs.declared.run.RunOutcome.TheVariants.{Exit}
 use Rattle.plans.specs.Images.{ImagesValue}
 use Rattle.plans.specs.Value.{Out}
-use Rattle.instructions.specs.declared.instruction.Instruction.{Instruction}
+use Rattle.instructions.specs.Instruction.{Instruction}
 use Rattle.scopes.specs.Evaluate.{Values}
 use Rattle.dockerfile.specs.Dockerfile.{IsRefused}
 use Rattle.dockerfile.specs.Faults.{AreFaults}

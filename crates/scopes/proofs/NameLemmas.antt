@@ -14,7 +14,9 @@ use Rattle.plain.specs.declared.fault.Fault.{Fault}
 use Rattle.expand.specs.declared.fault.Unexpanded.{Unexpanded}
 use Rattle.instructions.specs.Instruction.{assignment_names}
 use Rattle.scopes.specs.Evaluate.{Values, env_variables, env_line, arg_line, Says}
-use Rattle.scopes.specs.Scope.{or_else, where_same, run_env, kept, name_of, names_in, names_of, names_differ, equals_byte, is_environment_name}
+use Rattle.plain.specs.Variable.{names_of}
+use Rattle.plain.specs.VariableName.{equals_sign, is_variable_name}
+use Rattle.scopes.specs.Scope.{or_else, where_same, run_env, kept, name_of, names_in, names_differ}
 use Rattle.scopes.proofs.Said.{Said, env_said, arg_said, last, apart, settled}
 use Rattle.scopes.proofs.SaidLemmas.{either, apart-twice, apart-turned, last-settled}
 use Rattle.scopes.proofs.ScopeLemmas.{env_of, arg_of, kept-is, row_of, other_row_of, run_env-is}
@@ -243,29 +245,29 @@ is_not : (c d : ℕ) (b : Bool) → (c == d) ≡ b → (c ≡ d → ⊥) → b �
 is_not c d true e h = absurd (h (grind (arith, nat_tests)))
 is_not c d false e h = refl
 
-in_name-no_equals : (c : ℕ) → is_in_name c ≡ true → (c == equals_byte) ≡ false
-in_name-no_equals c h = is_not c equals_byte (c == equals_byte) refl (λ e. true≢false (sym h ∙ ap is_in_name e))
+in_name-no_equals : (c : ℕ) → is_in_name c ≡ true → (c == equals_sign) ≡ false
+in_name-no_equals c h = is_not c equals_sign (c == equals_sign) refl (λ e. true≢false (sym h ∙ ap is_in_name e))
 
 begins_name-in_name : (c : ℕ) → begins_name c ≡ true → is_in_name c ≡ true
 begins_name-in_name c h = rw h refl
 
-are_in_name-no_equals : (cs : List ℕ) → are_in_name cs ≡ true → list_any (λ byte. byte == equals_byte) cs ≡ false
+are_in_name-no_equals : (cs : List ℕ) → are_in_name cs ≡ true → list_any (λ byte. byte == equals_sign) cs ≡ false
 are_in_name-no_equals [] h = refl
 are_in_name-no_equals (c ∷ cs) h = by (is_in_name c) refl h (are_in_name-no_equals cs)
   where
-    by : (b : Bool) → is_in_name c ≡ b → (if b then are_in_name cs else false) ≡ true → (are_in_name cs ≡ true → list_any (λ byte. byte == equals_byte) cs ≡ false)
-        → list_any (λ byte. byte == equals_byte) (c ∷ cs) ≡ false
+    by : (b : Bool) → is_in_name c ≡ b → (if b then are_in_name cs else false) ≡ true → (are_in_name cs ≡ true → list_any (λ byte. byte == equals_sign) cs ≡ false)
+        → list_any (λ byte. byte == equals_sign) (c ∷ cs) ≡ false
     by true e i rest = rw (in_name-no_equals c e) (rest i)
     by false e i rest = absurd (true≢false (sym i))
 
 not_empty : (c : ℕ) (cs : List ℕ) → (length (c ∷ cs) == 0) ≡ false
 not_empty c cs = is_not (length (c ∷ cs)) 0 (length (c ∷ cs) == 0) refl (λ e. absurd (omega (arith, e)))
 
-pub name-fits : (n : List ℕ) → is_name n ≡ true → is_environment_name n ≡ true
+pub name-fits : (n : List ℕ) → is_name n ≡ true → is_variable_name n ≡ true
 name-fits [] h = absurd (true≢false (sym h))
 name-fits (c ∷ cs) h = by (begins_name c) refl h
   where
-    by : (b : Bool) → begins_name c ≡ b → (if b then are_in_name cs else false) ≡ true → is_environment_name (c ∷ cs) ≡ true
+    by : (b : Bool) → begins_name c ≡ b → (if b then are_in_name cs else false) ≡ true → is_variable_name (c ∷ cs) ≡ true
     by true e i = rw (not_empty c cs, in_name-no_equals c (begins_name-in_name c e), are_in_name-no_equals cs i) refl
     by false e i = absurd (true≢false (sym i))
 
@@ -281,13 +283,13 @@ arg_line-names before args outer (a ∷ rest) = ap (λ (ns : List (List ℕ)). a
 
 -- if those of an ENV are names, an environment may have them
 
-pub variables-fit : (before : Values) (assignments : List Assignment) → list_all is_name (assignment_names assignments) ≡ true → list_all is_environment_name (names_of (env_variables before assignments)) ≡ true
+pub variables-fit : (before : Values) (assignments : List Assignment) → list_all is_name (assignment_names assignments) ≡ true → list_all is_variable_name (names_of (env_variables before assignments)) ≡ true
 variables-fit before [] h = refl
 variables-fit before (a ∷ rest) h =
     let s = and-split (is_name a.name) (list_all is_name (assignment_names rest)) h in
     rw (name-fits a.name s.0) (variables-fit before rest s.1)
 
 pub names-fit : (before : Values) (assignments : List Assignment) (fault : Option Unexpanded) (r : Result (List Variable) (Fault Unexpanded)) → Says (env_variables before assignments) fault r
-    → list_all is_name (assignment_names assignments) ≡ true → IfOk r (λ variables. list_all is_environment_name (names_of variables) ≡ true)
-names-fit before assignments fault (Ok variables) s h = ap (λ (found : List Variable). list_all is_environment_name (names_of found)) s.0 ∙ variables-fit before assignments h
+    → list_all is_name (assignment_names assignments) ≡ true → IfOk r (λ variables. list_all is_variable_name (names_of variables) ≡ true)
+names-fit before assignments fault (Ok variables) s h = ap (λ (found : List Variable). list_all is_variable_name (names_of found)) s.0 ∙ variables-fit before assignments h
 names-fit before assignments fault (Err why) s h = tt

@@ -1,10 +1,11 @@
 -- What names have values, and RUN's environment, by the declarations so far in their order. Those of a base image's ENV come first, or
 -- those of the stage that a stage begins with. Nothing here knows how a scope is stored.
-use Rattle.std.specs.Prelude.{ℕ, Bool, true, not, ◌==◌, ◌&&◌, List, [], ◌∷◌, ◌++◌, length, map, filter, Option, Some, None, option_map, is_some, if◌then◌else◌}
-use Rattle.std.specs.List.{filter_map, list_any}
+use Rattle.std.specs.Prelude.{◌≡◌, ℕ, Bool, true, not, ◌&&◌, List, [], ◌∷◌, ◌++◌, map, filter, Option, Some, None, option_map, is_some, if◌then◌else◌}
+use Rattle.std.specs.List.{filter_map, list_all, list_any}
 use Rattle.std.specs.Str.{bytes_eq}
 use Rattle.scopes.specs.declared.declaration.Declaration.{Declaration}
 use Rattle.scopes.specs.declared.declaration.Declaration.TheVariants.{Env, Arg}
+use Rattle.plain.specs.VariableName.{is_variable_name}
 use Rattle.plain.specs.declared.variable.Variable.{Variable}
 
 -- the first value if there is one, else the second
@@ -84,20 +85,11 @@ name_of (Arg n value) = n
 abbrev pub names_in : List Declaration → List (List ℕ)
 names_in ds = map name_of ds
 
--- the names of an environment, one for each variable
-abbrev pub names_of : List Variable → List (List ℕ)
-names_of env = map (λ v. v.name) env
-
 -- no two of the names are the same
 abbrev pub names_differ : List (List ℕ) → Bool
 names_differ [] = true
 names_differ (n ∷ ns) = not (list_any (bytes_eq n) ns) && names_differ ns
 
--- the byte of `=`, at which an operating system cuts an environment's `NAME=VALUE`
-abbrev pub equals_byte : ℕ
-equals_byte = 61
-
--- what an operating system takes as the name of a variable: a text that isn't empty and holds no `=` (POSIX, environment
--- variables)
-abbrev pub is_environment_name : List ℕ → Bool
-is_environment_name n = not (length n == 0) && not (list_any (λ byte. byte == equals_byte) n)
+-- all names of declarations are names of variables, as the crate `plain` has them
+abbrev pub HaveNames : List Declaration → Type 0
+HaveNames ds = list_all is_variable_name (names_in ds) ≡ true

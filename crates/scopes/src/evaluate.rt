@@ -1,9 +1,11 @@
 ghost use Rattle.std.specs.Prelude.{◌≡◌, map, None, IfOk};
 ghost use Rattle.std.specs.FinMap.{get as arg_value};
+ghost use Rattle.plain.specs.VariableName.{IsVariableName};
 ghost use Rattle.expand.specs.Expanding.{unexpanded, worse};
-ghost use Rattle.scopes.specs.Scope.{or_else, value_in};
+ghost use Rattle.scopes.specs.Scope.{or_else, value_in, HaveNames};
 ghost use Rattle.scopes.specs.Evaluate.{assigned_variable, env_variables, env_fault, arg_fault, fallback, default_fault, Says};
 ghost use Rattle.scopes.specs.PrivateEvaluate.{IsLonger, row_of, argument_row};
+ghost use Rattle.scopes.specs.PrivateMaps.{env_row_of, arg_row_of};
 
 use crate::args::Args;
 use crate::scope::Scope;
@@ -70,11 +72,12 @@ pub(crate) fn variable_rows(
     alloc: Global,
     variables: &[Variable],
 ) -> Result<Items<(Text, Text)>, Memory>
-    ensures { IfOk result (λ rows. rows ≡ map row_of variables.now) }
+    ensures rows { IfOk result (λ rows. rows ≡ map row_of variables.now) }
+    ensures names { IfOk result (λ rows. HaveNames (map env_row_of rows)) }
 {
     let mut rows = Items::new(alloc);
     for variable in variables {
-        let name = variable.name.copy(alloc)?;
+        let name = variable.name.as_text().copy(alloc)?;
         let value = variable.value.copy(alloc)?;
         let value = value.shared(alloc)?;
         rows.push((name, value))?;
@@ -97,7 +100,8 @@ pub(crate) fn argument_rows(
     args: &Args,
     outer: &Scope,
 ) -> Result<Items<(Text, Option<Text>)>, ExpandFault>
-    ensures { Says (map (argument_row (value_in before.now) (arg_value args.now) (value_in outer.now)) arguments.now) (arg_fault (value_in before.now) (arg_value args.now) arguments.now) result }
+    ensures rows { Says (map (argument_row (value_in before.now) (arg_value args.now) (value_in outer.now)) arguments.now) (arg_fault (value_in before.now) (arg_value args.now) arguments.now) result }
+    ensures names { IfOk result (λ rows. HaveNames (map arg_row_of rows)) }
 {
     let mut saying = Saying {
         line: Items::new(alloc),
@@ -125,10 +129,11 @@ fn argued(
     args: &Args,
     outer: &Scope,
 ) -> Result<Saying, Memory>
-    ensures { IfOk result (λ more. IsLonger saying.line saying.fault (argument_row (value_in before.now) (arg_value args.now) (value_in outer.now) argument.now) (default_fault (value_in before.now) (arg_value args.now argument.now.name) argument.now.default) more.line more.fault) }
+    ensures line { IfOk result (λ more. IsLonger saying.line saying.fault (argument_row (value_in before.now) (arg_value args.now) (value_in outer.now) argument.now) (default_fault (value_in before.now) (arg_value args.now argument.now.name) argument.now.default) more.line more.fault) }
+    ensures name { IfOk result (λ _. IsVariableName argument.now.name) }
 {
     let Saying { mut line, fault } = saying;
-    let name = argument.name.copy(alloc)?;
+    let name = argument.name.as_text().copy(alloc)?;
     let (value, fault) = argument_value(alloc, argument, before, args, outer, fault)?;
     line.push((name, value))?;
     Ok(Saying { line, fault })
@@ -147,14 +152,14 @@ fn argument_value(
     ensures fault { IfOk result (λ found. found.1 ≡ worse fault (default_fault (value_in before.now) (arg_value args.now argument.now.name) argument.now.default)) }
     ensures value { IfOk result (λ found. found.1 ≡ None → found.0 ≡ or_else (arg_value args.now argument.now.name) (fallback (value_in before.now) (value_in outer.now argument.now.name) argument.now.default)) }
 {
-    if let Some(value) = args.get(&argument.name) {
+    if let Some(value) = args.get(argument.name.as_text()) {
         let value = value.copy(alloc)?;
         return Ok((Some(value), fault));
     }
     if let Some(word) = &argument.default {
         return expand_next(alloc, word, before, fault);
     }
-    match outer.get(&argument.name) {
+    match outer.get(argument.name.as_text()) {
         Some(value) => {
             let value = value.copy(alloc)?;
             Ok((Some(value), fault))

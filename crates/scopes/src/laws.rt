@@ -7,7 +7,9 @@ ghost use Rattle.instructions.specs.declared.instruction.Argument.{Argument};
 ghost use Rattle.instructions.specs.declared.instruction.Assignment.{Assignment};
 ghost use Rattle.scopes.specs.History.{ScopeLine, line_fault, history, scope_after};
 ghost use Rattle.scopes.specs.Evaluate.{Values, env_line, arg_line};
-ghost use Rattle.scopes.specs.Scope.{last_env, last_arg, value_in, run_env, kept, names_in, names_of, names_differ, is_environment_name};
+ghost use Rattle.plain.specs.Variable.{names_of};
+ghost use Rattle.plain.specs.VariableName.{is_variable_name};
+ghost use Rattle.scopes.specs.Scope.{last_env, last_arg, value_in, run_env, kept, names_in, names_differ};
 ghost use Rattle.scopes.specs.declared.declaration.Declaration.{Declaration};
 ghost use Rattle.scopes.specs.declared.declaration.Declaration.TheVariants.{Env, Arg};
 
@@ -59,5 +61,5 @@ pub fn lines_declare_their_names()
 /// The name of a variable, as ENV and ARG have it, is one of an environment: it isn't empty and holds no `=`. So a scope in which
 /// all names of inherited variables are such has only such names in RUN's environment.
 pub fn names_fit_environments()
-    ensures { (n : List ℕ) → is_name n ≡ true → is_environment_name n ≡ true }
+    ensures { (n : List ℕ) → is_name n ≡ true → is_variable_name n ≡ true }
 {}

@@ -1,10 +1,12 @@
 // The rows of RUN's environment that the two maps of a scope make: what ENVs set, and what ARGs declare.
 
-ghost use Rattle.std.specs.Prelude.{◌≡◌, ◌∷◌, ◌++◌, [], IfOk, OnOk};
-ghost use Rattle.scopes.specs.PrivateMaps.{variable_rows, argument_rows};
+ghost use Rattle.std.specs.Prelude.{◌≡◌, ◌∷◌, ◌++◌, [], map, IfOk, OnOk};
+ghost use Rattle.plain.specs.VariableName.{IsVariableName};
+ghost use Rattle.scopes.specs.Scope.{HaveNames};
+ghost use Rattle.scopes.specs.PrivateMaps.{env_row_of, arg_row_of, variable_rows, argument_rows};
 
 use named::NamedRows;
-use plain::{Exact, Items, Memory, Text, Variable};
+use plain::{Exact, Items, Memory, Text, Variable, VariableName};
 use std::alloc::Global;
 
 /// Adds a row for each ENV.
@@ -13,6 +15,7 @@ pub(crate) fn push_variables(
     rows: &mut Items<Variable>,
     variables: &NamedRows<Text>,
 ) -> Result<(), Memory>
+    requires { HaveNames (map env_row_of variables.now) }
     ensures { OnOk result (rows.new ≡ rows.old ++ variable_rows variables.now) }
 {
     for (name, value) in variables.as_slice().iter() {
@@ -28,6 +31,7 @@ pub(crate) fn push_arguments(
     arguments: &NamedRows<Option<Text>>,
     variables: &NamedRows<Text>,
 ) -> Result<(), Memory>
+    requires { HaveNames (map arg_row_of arguments.now) }
     ensures { OnOk result (rows.new ≡ rows.old ++ argument_rows variables.now arguments.now) }
 {
     for (name, value) in arguments.as_slice().iter() {
@@ -44,6 +48,7 @@ fn push_argument(
     value: &Option<Text>,
     variables: &NamedRows<Text>,
 ) -> Result<(), Memory>
+    requires { IsVariableName name.now }
     ensures { OnOk result (rows.new ≡ rows.old ++ argument_rows variables.now ((name.now, value.now) ∷ [])) }
 {
     match value {
@@ -59,11 +64,15 @@ fn push_row(
     name: &Text,
     value: &Text,
 ) -> Result<(), Memory>
+    requires { IsVariableName name.now }
     ensures { OnOk result (rows.new ≡ rows.old ++ (record { name = name.now; value = value.now }) ∷ []) }
 {
     let name = name.copy(alloc)?;
     let value = value.copy(alloc)?;
-    rows.push(Variable { name, value })
+    rows.push(Variable {
+        name: VariableName::of(name),
+        value,
+    })
 }
 
 /// How many arguments have a value.

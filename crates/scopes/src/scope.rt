@@ -1,9 +1,6 @@
-ghost use Rattle.std.specs.Prelude.{◌≡◌, true, [], ◌++◌, map, option_map, OnOk, OnErr, IfOk};
-ghost use Rattle.std.specs.List.{list_all};
+ghost use Rattle.std.specs.Prelude.{◌≡◌, [], ◌++◌, map, option_map, OnOk, OnErr, IfOk};
 ghost use Rattle.std.specs.FinMap.{get as arg_value};
-ghost use Rattle.ascii.specs.Names.{is_name};
-ghost use Rattle.instructions.specs.Instruction.{assignment_names};
-ghost use Rattle.scopes.specs.Scope.{value_in, kept, run_env, names_of, is_environment_name};
+ghost use Rattle.scopes.specs.Scope.{value_in, kept, run_env, HaveNames};
 ghost use Rattle.scopes.specs.PrivateMaps.{env_row_of, arg_row_of};
 ghost use Rattle.scopes.specs.Evaluate.{declaration_of, env_variables, env_fault, env_line, arg_line, arg_fault, Says, Declares};
 
@@ -21,7 +18,8 @@ use std::marker::Model;
 /// What names have values by the ENV and ARG lines so far.
 ///
 /// Contracts see a list of declarations that means the same: an ENV for each name that one has set, in the order in which these
-/// names came first, then an ARG for each name that one has declared, in the order in which these were first declared.
+/// names came first, then an ARG for each name that one has declared, in the order in which these were first declared. All names are names
+/// of variables.
 #[derive(Drop)]
 pub struct Scope {
     variables: NamedRows<Text>,
@@ -36,12 +34,12 @@ impl Model for Scope {
 
     ghost Value = { List Declaration };
 
-    ghost use Rattle.scopes.specs.Scope.{kept, value_in};
+    ghost use Rattle.scopes.specs.Scope.{kept, value_in, HaveNames};
     ghost use Rattle.scopes.specs.PrivateMaps.{declared, IsEnvironmentOf};
 
     ghost view = { λ s. declared s.variables s.arguments };
 
-    ghost invariant = { λ s. (kept (declared s.variables s.arguments) ≡ declared s.variables s.arguments) × IsEnvironmentOf (declared s.variables s.arguments) s.env };
+    ghost invariant = { λ s. (kept (declared s.variables s.arguments) ≡ declared s.variables s.arguments) × IsEnvironmentOf (declared s.variables s.arguments) s.env × HaveNames (declared s.variables s.arguments) };
 }
 
 impl Scope {
@@ -81,15 +79,13 @@ impl Scope {
     /// reference, environment replacement). The line is added by `set_variables`, and whoever else takes what it sets needn't expand
     /// its words again. The copies of a value share its bytes.
     ///
-    /// `TooLong` where a value can't be expanded for that reason; else `Required` with the first text that one is refused with. Where
-    /// the names of the line are names, an environment may have those of the result.
+    /// `TooLong` where a value can't be expanded for that reason; else `Required` with the first text that one is refused with.
     pub fn variables(
         &self,
         alloc: Global,
         assignments: &[Assignment],
     ) -> Result<Items<Variable>, ExpandFault>
-        ensures says { Says (env_variables (value_in self.now) assignments.now) (env_fault (value_in self.now) assignments.now) result }
-        ensures names { list_all is_name (assignment_names assignments.now) ≡ true → IfOk result (λ variables. list_all is_environment_name (names_of variables) ≡ true) }
+        ensures { Says (env_variables (value_in self.now) assignments.now) (env_fault (value_in self.now) assignments.now) result }
     {
         assigned_variables(alloc, assignments, self)
     }
@@ -116,6 +112,7 @@ impl Scope {
 
     /// Adds an ENV for each row. After `Memory` the scope is as it was.
     fn set(&mut self, rows: Items<(Text, Text)>) -> Result<(), Memory>
+        requires { HaveNames (map env_row_of rows) }
         ensures ok { OnOk result (self.new ≡ kept (self.old ++ map env_row_of rows)) }
         ensures err { OnErr result (self.new ≡ self.old) }
     {
@@ -125,6 +122,7 @@ impl Scope {
 
     /// Adds an ARG for each row. After `Memory` the scope is as it was.
     fn give(&mut self, rows: Items<(Text, Option<Text>)>) -> Result<(), Memory>
+        requires { HaveNames (map arg_row_of rows) }
         ensures ok { OnOk result (self.new ≡ kept (self.old ++ map arg_row_of rows)) }
         ensures err { OnErr result (self.new ≡ self.old) }
     {

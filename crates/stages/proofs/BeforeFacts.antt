@@ -7,7 +7,7 @@ use Rattle.std.proofs.lemmas.List.Elements.{filter_map-append}
 use Rattle.std.proofs.Math.Seq.{take-append_seam}
 use Rattle.expand.specs.Value.{Parts}
 use Rattle.instructions.specs.declared.instruction.Argument.{Argument}
-use Rattle.instructions.specs.declared.instruction.Instruction.{Instruction}
+use Rattle.instructions.specs.Instruction.{Instruction}
 use Rattle.scopes.specs.History.{ScopeLine, declares, said, scope_after}
 use Rattle.scopes.specs.Scope.{value_in, kept}
 use Rattle.scopes.specs.Evaluate.{Values, arg_line}

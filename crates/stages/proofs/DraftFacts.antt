@@ -19,7 +19,7 @@ use Rattle.rows.specs.declared.row.Origin.{Origin}
 use Rattle.instructions.specs.Least.{least}
 use Rattle.instructions.specs.Reason.{is_long, required_in, reason_by, reason, Evaluates}
 use Rattle.instructions.specs.declared.instruction.Argument.{Argument}
-use Rattle.instructions.specs.declared.instruction.Instruction.{Instruction}
+use Rattle.instructions.specs.Instruction.{Instruction}
 use Rattle.instructions.specs.declared.instruction.InstructionKind.{InstructionKind}
 use Rattle.scopes.specs.Scope.{value_in, kept}
 use Rattle.scopes.specs.Evaluate.{Values, arg_line, arg_fault}

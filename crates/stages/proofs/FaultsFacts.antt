@@ -19,7 +19,7 @@ use Rattle.expand.specs.declared.reason.Reason.TheVariants.{Coded}
 use Rattle.expand.specs.declared.reason.Rejection.{Rejection}
 use Rattle.instructions.specs.Reason.{reason, Evaluates}
 use Rattle.instructions.specs.declared.instruction.Argument.{Argument}
-use Rattle.instructions.specs.declared.instruction.Instruction.{Instruction}
+use Rattle.instructions.specs.Instruction.{Instruction}
 use Rattle.instructions.specs.declared.instruction.InstructionKind.{InstructionKind}
 use Rattle.scopes.specs.History.{scope_after}
 use Rattle.scopes.specs.Scope.{value_in, kept}

@@ -17,7 +17,7 @@ use Rattle.expand.specs.declared.reason.Rejection.{Rejection}
 use Rattle.instructions.specs.Instruction.{is_files, IsInstruction}
 use Rattle.instructions.specs.Reason.{reason}
 use Rattle.instructions.specs.declared.instruction.Argument.{Argument}
-use Rattle.instructions.specs.declared.instruction.Instruction.{Instruction}
+use Rattle.instructions.specs.Instruction.{Instruction}
 use Rattle.instructions.specs.declared.instruction.InstructionKind.TheVariants.{Copy}
 use Rattle.instructions.specs.declared.instruction.Source.{Source}
 use Rattle.llb.specs.Places.{AscendFrom, AreLines}

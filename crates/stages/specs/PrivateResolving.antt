@@ -11,7 +11,7 @@ use Rattle.expand.specs.declared.reason.Reason.{Reason}
 use Rattle.expand.specs.declared.reason.Reason.TheVariants.{Coded}
 use Rattle.expand.specs.declared.reason.Rejection.{Rejection}
 use Rattle.instructions.specs.declared.instruction.Argument.{Argument}
-use Rattle.instructions.specs.declared.instruction.Instruction.{Instruction}
+use Rattle.instructions.specs.Instruction.{Instruction}
 use Rattle.rows.specs.declared.row.Origin.{Origin}
 use Rattle.scopes.specs.Scope.{value_in, kept}
 use Rattle.scopes.specs.Evaluate.{Values, arg_line}

@@ -5,7 +5,7 @@ use Rattle.plain.specs.declared.refusal.Code.TheVariants.{R05, R13}
 use Rattle.expand.specs.Reasons.{reason_number}
 use Rattle.expand.specs.declared.reason.Reason.TheVariants.{Coded}
 use Rattle.expand.specs.declared.reason.Rejection.{Rejection}
-use Rattle.instructions.specs.declared.instruction.Instruction.{Instruction}
+use Rattle.instructions.specs.Instruction.{Instruction}
 use Rattle.scopes.specs.Evaluate.{Values}
 use Rattle.stages.specs.Naming.{Known}
 use Rattle.stages.specs.Before.{stage_names}

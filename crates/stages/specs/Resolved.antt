@@ -7,7 +7,7 @@ use Rattle.plain.specs.declared.fault.Fault.TheVariants.{Because, Memory}
 use Rattle.expand.specs.declared.reason.Reason.{Reason}
 use Rattle.expand.specs.declared.reason.Reason.TheVariants.{Coded}
 use Rattle.expand.specs.declared.reason.Rejection.{Rejection}
-use Rattle.instructions.specs.declared.instruction.Instruction.{Instruction}
+use Rattle.instructions.specs.Instruction.{Instruction}
 use Rattle.scopes.specs.Evaluate.{Values}
 use Rattle.stages.specs.Naming.{Names, Known, stage_found}
 use Rattle.stages.specs.Before.{declared_by, stage_names, outer_scope}

@@ -6,7 +6,7 @@ use Rattle.plain.specs.Limits.{most_lines, most_stages}
 use Rattle.options.specs.declared.copy.CopyFlags.{CopyFlags}
 use Rattle.expand.specs.Value.{Parts}
 use Rattle.instructions.specs.Instruction.{is_files, IsInstruction}
-use Rattle.instructions.specs.declared.instruction.Instruction.{Instruction}
+use Rattle.instructions.specs.Instruction.{Instruction}
 use Rattle.instructions.specs.declared.instruction.InstructionKind.TheVariants.{Copy}
 use Rattle.instructions.specs.declared.instruction.Source.{Source}
 use Rattle.llb.specs.Places.{AreLines}

@@ -243,10 +243,10 @@ fn with_line_refusals<C>(
     let mut outer = Scope::new(alloc, keys);
     let mut names = Items::new(alloc);
     for instruction in instructions {
-        let kind = &instruction.kind;
+        let kind = instruction.kind();
         let is_outer = is_outer_argument(names.as_slice(), kind);
         let reason = kind_reason(alloc, keys, images, args, &mut outer, &mut names, kind)?;
-        let is_last = tell(&mut refusals, instruction.line, reason, is_outer)?;
+        let is_last = tell(&mut refusals, instruction.line(), reason, is_outer)?;
         if is_last {
             return Ok(refusals);
         }

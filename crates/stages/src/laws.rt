@@ -7,7 +7,7 @@ ghost use Rattle.expand.specs.Value.{Parts};
 ghost use Rattle.expand.specs.Reasons.{reason_number};
 ghost use Rattle.expand.specs.declared.reason.Rejection.{Rejection};
 ghost use Rattle.instructions.specs.Instruction.{is_files, IsInstruction};
-ghost use Rattle.instructions.specs.declared.instruction.Instruction.{Instruction};
+ghost use Rattle.instructions.specs.Instruction.{Instruction};
 ghost use Rattle.instructions.specs.declared.instruction.InstructionKind.TheVariants.{Copy};
 ghost use Rattle.instructions.specs.declared.instruction.Source.{Source};
 ghost use Rattle.rows.specs.declared.row.Origin.TheVariants.{Stage as StageOf};

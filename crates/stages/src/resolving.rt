@@ -386,7 +386,7 @@ fn extend<C>(
     requires { length draft.names ≤ most_stages }
     ensures { Evaluates (Some (draft_extended (names_in images.now) draft instruction)) (inner_due (names_in images.now) (all_but_last draft.names) instruction.kind) None result }
 {
-    match inner_origins(alloc, images, draft.names.as_slice(), &instruction.kind) {
+    match inner_origins(alloc, images, draft.names.as_slice(), instruction.kind()) {
         Ok(origins) => {
             let resolved = ResolvedInstruction {
                 instruction,
@@ -473,7 +473,7 @@ fn add_other<C>(
     ensures { Evaluates (Some (draft_other (names_in images.now) (arg_value args.now) draft draft.names instruction)) (other_due (names_in images.now) (arg_value args.now) draft.outer draft.names instruction.kind) (other_fault (arg_value args.now) draft.outer draft.names instruction.kind) result }
 {
     if draft.names.is_empty() {
-        let declared = declare(alloc, keys, draft, &instruction.kind, args);
+        let declared = declare(alloc, keys, draft, instruction.kind(), args);
         drop(instruction);
         declared
     } else {
@@ -493,9 +493,9 @@ fn add<C>(
     requires { length draft.names ≤ most_stages }
     ensures { Evaluates (Some (draft_after (names_in images.now) (arg_value args.now) draft instruction)) (kind_due (names_in images.now) (arg_value args.now) draft.outer draft.names instruction.kind) (kind_fault (arg_value args.now) draft.outer draft.names instruction.kind) result }
 {
-    match begun(&instruction.kind) {
+    match begun(instruction.kind()) {
         Some((image, name)) => {
-            let begun = begin(alloc, draft, images, instruction.line, image, name);
+            let begun = begin(alloc, draft, images, instruction.line(), image, name);
             drop(instruction);
             begun
         }
@@ -520,7 +520,7 @@ pub(crate) fn add_all<C>(
         last: None,
     };
     for instruction in instructions {
-        let line = instruction.line;
+        let line = instruction.line();
         draft = match add(alloc, keys, draft, images, args, instruction) {
             Ok(draft) => draft,
             Err(Fault::Because(reason)) => return Err(Fault::Because(Rejection { reason, line })),

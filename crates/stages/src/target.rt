@@ -19,7 +19,7 @@ use plain::{Code, Fault, Text};
 pub(crate) fn name_begun(instruction: &Instruction) -> Option<&Option<Text>>
     ensures { option_map (λ name. name.now) result ≡ name_begun instruction.entry.now }
 {
-    match &instruction.kind {
+    match instruction.kind() {
         InstructionKind::From { name, .. } => Some(name),
         InstructionKind::Arg { .. }
         | InstructionKind::Env { .. }
@@ -97,7 +97,7 @@ pub(crate) fn are_arguments(instructions: &[Instruction]) -> bool
     ensures { result ≡ are_arguments instructions.now }
 {
     for instruction in instructions {
-        if declared_by(&instruction.kind).is_none() {
+        if declared_by(instruction.kind()).is_none() {
             return false;
         }
     }

@@ -60,7 +60,7 @@ fn add_lines(alloc: Global, page: &mut Page, lines: &[Line]) -> Result<(), TextF
 fn add_line(alloc: Global, page: &mut Page, line: &Line) -> Result<(), TextFault> {
     match parse(alloc, line) {
         Ok(instruction) => {
-            let done = add_instruction(alloc, page, &instruction.kind);
+            let done = add_instruction(alloc, page, instruction.kind());
             drop(instruction);
             done
         }

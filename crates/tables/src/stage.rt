@@ -86,7 +86,7 @@ impl Stage {
     fn read_line(&mut self, alloc: Global, line: &Line) -> Result<(), ReasonFault> {
         match parse(alloc, line) {
             Ok(instruction) => {
-                let done = self.evaluate(alloc, &instruction.kind);
+                let done = self.evaluate(alloc, instruction.kind());
                 drop(instruction);
                 done
             }

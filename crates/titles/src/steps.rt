@@ -36,7 +36,7 @@ pub(crate) fn step_count(instructions: &[ResolvedInstruction]) -> usize
 {
     let mut count: usize = 0;
     for resolved in instructions {
-        if step_word(&resolved.instruction.kind).is_some() {
+        if step_word(resolved.instruction.kind()).is_some() {
             count += 1;
         }
     }

@@ -39,8 +39,8 @@ fn stage_titled(
     let instructions = stage.instructions.as_slice();
     let total = number + step_count(instructions);
     for resolved in instructions {
-        let line = resolved.instruction.line;
-        if let Some(word) = step_word(&resolved.instruction.kind) {
+        let line = resolved.instruction.line();
+        if let Some(word) = step_word(resolved.instruction.kind()) {
             number += 1;
             let title = step_title(alloc, called, number, total, word, rest_at(lines, line))?;
             titles = with_title(alloc, titles, line, Text::from_string(title))?;
