@@ -6,7 +6,6 @@ pub mod PrivatePieces
 pub mod PrivateReading
 pub mod PrivateScan
 pub mod PrivateState
-pub mod PrivateSteps
 pub mod PrivateTokens
 pub mod Reasons
 pub mod Scan

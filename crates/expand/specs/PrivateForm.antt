@@ -2,8 +2,7 @@
 use Rattle.std.specs.Prelude.{◌≡◌, ℕ, Bool, true, false, List, [], ◌∷◌, if◌then◌else◌}
 use Rattle.lines.specs.declared.escape.Escape.{Escape}
 use Rattle.expand.specs.Value.{Parts, no_part, with_text}
-use Rattle.expand.specs.PrivateOutput.{bytewise}
-use Rattle.expand.specs.PrivateTokens.{tokens_of, word_of}
+use Rattle.expand.specs.PrivateTokens.{around, levels, word_of}
 use Rattle.expand.specs.Word.{is_ordinary}
 use Rattle.expand.specs.declared.form.Form.{Form}
 use Rattle.expand.specs.declared.form.Form.TheVariants.{Plain, Tokens}
@@ -14,10 +13,10 @@ abbrev pub kept_word : Form → Parts
 kept_word (Plain text) = with_text text no_part
 kept_word (Tokens tokens) = word_of tokens
 
--- each word within it is closed: the tokens are those of their word, plain text byte by byte
+-- each word within it is closed
 abbrev pub IsClosed : Form → Type 0
 IsClosed (Plain text) = Unit {0}
-IsClosed (Tokens tokens) = tokens_of (word_of tokens) ≡ bytewise tokens
+IsClosed (Tokens tokens) = around (levels tokens) ≡ []
 
 -- the bytes are ordinary
 abbrev pub are_ordinary : Kind → Escape → List ℕ → Bool

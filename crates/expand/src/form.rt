@@ -1,12 +1,11 @@
-ghost use Rattle.std.specs.Prelude.{◌≡◌, IfOk};
+ghost use Rattle.std.specs.Prelude.{◌≡◌};
 ghost use Rattle.expand.specs.PrivateForm.{are_ordinary};
 ghost use Rattle.expand.specs.Word.{is_ordinary};
 
 use crate::kind::Kind;
 use crate::token::Token;
 use lines::Escape;
-use plain::{Exact, Items, Memory, Text};
-use std::alloc::Global;
+use plain::{Items, Text};
 
 /// How a word is kept.
 #[derive(Debug, Drop)]
@@ -16,18 +15,6 @@ pub enum Form {
     Plain(Text),
     /// Tokens, where something may be syntax.
     Tokens(Items<Token>),
-}
-
-impl Form {
-    /// The same form once more.
-    pub fn copied(&self, alloc: Global) -> Result<Form, Memory>
-        ensures { IfOk result (λ copied. copied ≡ self.now) }
-    {
-        match self {
-            Form::Plain(text) => Ok(Form::Plain(text.copy(alloc)?)),
-            Form::Tokens(tokens) => Ok(Form::Tokens(tokens.copy(alloc)?)),
-        }
-    }
 }
 
 /// Whether a text's bytes are ordinary, and so stand for themselves.

@@ -17,7 +17,7 @@
 #![tactic(auto)]
 
 mod character;
-mod exact;
+mod copied;
 mod expanding;
 mod fault;
 mod form;
@@ -33,6 +33,7 @@ mod state;
 mod token;
 mod word;
 
+pub use copied::Copied;
 pub use expanding::{expand, expand_next};
 pub use fault::{ExpandFault, Unexpanded};
 pub use kind::Kind;

@@ -8,14 +8,14 @@ ghost use Rattle.expand.specs.PrivateScan.{scanned};
 ghost use Rattle.expand.specs.Value.{no_part, with_text};
 ghost use Rattle.expand.specs.Word.{Finds, Reads, word};
 
-use crate::exact::have_same_steps;
+use crate::copied::Copied;
 use crate::form::{Form, are_ordinary};
 use crate::kind::Kind;
 use crate::reading::read;
 use crate::scan::scan;
 use crate::token::Token;
 use lines::Escape;
-use plain::{Code, Exact, Fault, Items, Memory, Text};
+use plain::{Code, Fault, Items, Memory, Text};
 use std::alloc::Global;
 use std::marker::Model;
 use words::TextFault;
@@ -31,6 +31,13 @@ pub struct Word {
 impl Drop for Word {
     fn drop(self) {
         let Word { form: _ } = self;
+    }
+}
+
+impl Copied for Word {
+    fn copied(&self, alloc: Global) -> Result<Word, Memory> {
+        let form = self.form.copied(alloc)?;
+        Ok(Word { form })
     }
 }
 
@@ -75,17 +82,6 @@ impl Word {
         ensures { kept_word result.now ≡ self.now }
     {
         &self.form
-    }
-}
-
-impl Exact for Word {
-    fn same(&self, other: &Word) -> bool {
-        have_same_steps(&self.form, &other.form)
-    }
-
-    fn copy(&self, alloc: Global) -> Result<Word, Memory> {
-        let form = self.form.copied(alloc)?;
-        Ok(Word { form })
     }
 }
 

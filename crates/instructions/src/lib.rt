@@ -19,9 +19,9 @@
 
 mod arg;
 mod command;
+mod copied;
 mod copy;
 mod env;
-mod exact;
 mod expanded;
 mod expose;
 mod from;
