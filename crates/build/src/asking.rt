@@ -16,7 +16,7 @@ use expand::{Rejection, RejectionFault};
 use imageconfig::BoxedConfig;
 use lines::LineFault;
 use plain::Fault;
-use stages::StageTable;
+use stages::TargetTable;
 use std::alloc::Global;
 use std::hash::RandomState;
 use std::thread::Threads;
@@ -127,11 +127,11 @@ pub(crate) fn table_of(
     keys: RandomState,
     bundle: &Bundle<BoxedConfig>,
     file: Dockerfile,
-) -> Result<StageTable, RejectionFault>
+) -> Result<TargetTable, RejectionFault>
     ensures table { Returns (resolved (names_in bundle.now.images) (arg_value bundle.now.args) bundle.now.target file) result }
     ensures known { IfOk result (λ table. All (NamesKnown (names_in bundle.now.images)) table.stages) }
 {
-    StageTable::resolve(
+    TargetTable::resolve(
         alloc,
         keys,
         file,
@@ -146,7 +146,7 @@ pub(crate) fn ask_table(
     alloc: Global,
     keys: RandomState,
     bundle: Bundle<BoxedConfig>,
-    table: StageTable,
+    table: TargetTable,
 ) -> Result<Asked, RejectionFault>
     requires idle { bundle.caches.holds ≡ [] }
     requires known { All (NamesKnown (names_in bundle.images)) table.stages }

@@ -23,7 +23,7 @@ use lines::Line;
 use named::NamedRows;
 use paths::Path;
 use plain::{Fault, Items, Memory, Text};
-use stages::{StageTable, stage_names};
+use stages::{TargetTable, stage_names};
 use std::alloc::Global;
 use std::hash::RandomState;
 use std::thread::Threads;
@@ -166,7 +166,7 @@ fn titled_table(
     alloc: Global,
     keys: RandomState,
     bundle: Bundle<BoxedConfig>,
-    table: StageTable,
+    table: TargetTable,
     lines: &[Line],
     names: &[Option<Text>],
 ) -> Result<(Asked, Items<Option<Text>>), RejectionFault>

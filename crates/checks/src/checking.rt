@@ -19,7 +19,7 @@ use expand::Rejection;
 use flaws::{Flaw, find};
 use imageconfig::{BoxedConfig, Config};
 use plain::{Bytes, Exact, Fault, Items, Memory, Refusal, Text};
-use stages::StageTable;
+use stages::{TargetTable, list_refusals};
 use std::alloc::Global;
 use std::hash::RandomState;
 use std::thread::Threads;
@@ -41,7 +41,7 @@ pub struct Findings {
 /// All faults of the bytes of a bundle, of the first phase that has one, in the order of their lines (own).
 ///
 /// There is one if the bytes are no bundle (R20), and if the ignore file has a bad line (R19). The faults of the Dockerfile's text are those of
-/// `Dockerfile::check`, those of its stages are those of `StageTable::faults`, and those of the evaluation of the stages that the target needs are
+/// `Dockerfile::check`, those of its stages are those of `list_refusals`, and those of the evaluation of the stages that the target needs are
 /// those of `evaluation::list_faults`. An accepted bundle has none.
 pub fn check_bundle(
     alloc: Global,
@@ -191,7 +191,7 @@ fn check_stages(
 ) -> Result<Items<Rejection>, Memory>
     ensures { IfOk result (λ faults. AreStageFaults bundle.images (arg_value bundle.args) bundle.target file faults) }
 {
-    match StageTable::faults(
+    match list_refusals(
         alloc,
         keys,
         &file,
@@ -240,7 +240,7 @@ fn check_named(
     ensures { IfOk result (λ faults. AreStageFaults bundle.images (arg_value bundle.args) bundle.target file faults) }
 {
     stages::laws::the_first_fault_is_the_refusal();
-    match StageTable::resolve(
+    match TargetTable::resolve(
         alloc,
         keys,
         file,
@@ -262,7 +262,7 @@ fn check_table(
     alloc: Global,
     keys: RandomState,
     bundle: Bundle<BoxedConfig>,
-    table: StageTable,
+    table: TargetTable,
 ) -> Result<Items<Rejection>, Memory>
     ensures { IfOk result (λ faults. AreTableFaults bundle.images (arg_value bundle.args) table faults) }
 {

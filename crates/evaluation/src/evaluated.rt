@@ -26,7 +26,7 @@ use scopes::Args;
 use scopes::laws::{
     environments_have_the_names_of_declarations, lines_declare_their_names, names_fit_environments,
 };
-use stages::StageTable;
+use stages::TargetTable;
 use std::alloc::Global;
 use std::hash::RandomState;
 use trees::Tree;
@@ -148,7 +148,7 @@ fn make(
 fn evaluate_needed(
     alloc: Global,
     keys: RandomState,
-    table: StageTable,
+    table: TargetTable,
     images: Images<BoxedConfig>,
     context: Tree,
     args: &Args,
@@ -195,7 +195,7 @@ fn evaluate_needed(
 pub fn evaluate(
     alloc: Global,
     keys: RandomState,
-    table: StageTable,
+    table: TargetTable,
     images: Images<BoxedConfig>,
     context: Tree,
     args: &Args,

@@ -22,7 +22,7 @@ use plain::{Fault, Items, Memory};
 use plans::Images;
 use rows::{Origin, Stage};
 use scopes::Args;
-use stages::{ResolvedStage, StageTable};
+use stages::{ResolvedStage, TargetTable};
 use std::alloc::Global;
 use std::hash::RandomState;
 
@@ -282,7 +282,7 @@ fn judge_stages(
 fn list_needed(
     alloc: Global,
     keys: RandomState,
-    table: StageTable,
+    table: TargetTable,
     images: &Images<BoxedConfig>,
     args: &Args,
     needed: &[bool],
@@ -310,7 +310,7 @@ fn list_needed(
 pub fn list_faults(
     alloc: Global,
     keys: RandomState,
-    table: StageTable,
+    table: TargetTable,
     images: &Images<BoxedConfig>,
     args: &Args,
 ) -> Result<Items<Rejection>, Memory>

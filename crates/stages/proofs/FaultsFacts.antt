@@ -148,16 +148,16 @@ due_as known args done outer names i outer_is names_are =
     ap (λ scope. reason (kind_due known args scope (stage_names done) i.kind) (kind_fault args scope (stage_names done) i.kind)) (sym outer_is)
     ∙ ap (λ ns. reason (kind_due known args outer ns i.kind) (kind_fault args outer ns i.kind)) (sym names_are)
 
-made_as : (args : Values) (done : List Instruction) (outer : List Declaration) (names : Names) (i : Instruction) → outer ≡ outer_scope args done → names ≡ stage_names done
+pub made_as : (args : Values) (done : List Instruction) (outer : List Declaration) (names : Names) (i : Instruction) → outer ≡ outer_scope args done → names ≡ stage_names done
     → outer_by args outer names (declared_by i.kind) (begun i.kind) ≡ outer_scope args (done ++ i ∷ [])
 made_as args done outer names i outer_is names_are =
     ap (λ scope. outer_by args scope names (declared_by i.kind) (begun i.kind)) outer_is
     ∙ (ap (λ ns. outer_by args (outer_scope args done) ns (declared_by i.kind) (begun i.kind)) names_are ∙ sym (scope_by args done i (begun i.kind) refl))
 
-names_as : (done : List Instruction) (names next : Names) (i : Instruction) → names ≡ stage_names done → next ≡ names_by names (begun i.kind) → next ≡ stage_names (done ++ i ∷ [])
+pub names_as : (done : List Instruction) (names next : Names) (i : Instruction) → names ≡ stage_names done → next ≡ names_by names (begun i.kind) → next ≡ stage_names (done ++ i ∷ [])
 names_as done names next i names_are is = is ∙ (ap (λ ns. names_by ns (begun i.kind)) names_are ∙ sym (names_more done i (begun i.kind) refl))
 
-few_as : (names next : Names) (i : Instruction) (count : ℕ) → next ≡ names_by names (begun i.kind) → length names ≤ count → length next ≤ count + 1
+pub few_as : (names next : Names) (i : Instruction) (count : ℕ) → next ≡ names_by names (begun i.kind) → length names ≤ count → length next ≤ count + 1
 few_as names next i count is few = let h = names_few names (begun i.kind) in let e = ap length is in omega (arith, h, e, few)
 
 -- an instruction that isn't refused
@@ -247,10 +247,10 @@ faults_all known args all done count outer names refusals far = sym (append-nil 
 
 -- over the list that the loop goes through
 
-taken : (is : List Instruction) (index : ℕ) (i : Instruction) → index < length is → i ≡ get_or is index i → take (index + 1) is ≡ take index is ++ i ∷ []
+pub taken : (is : List Instruction) (index : ℕ) (i : Instruction) → index < length is → i ≡ get_or is index i → take (index + 1) is ≡ take index is ++ i ∷ []
 taken is index i lt here = take_more is index i lt ∙ ap (λ j. take index is ++ j ∷ []) (sym here)
 
-dropped : (is : List Instruction) (index : ℕ) (i : Instruction) → index < length is → i ≡ get_or is index i → drop index is ≡ i ∷ drop (index + 1) is
+pub dropped : (is : List Instruction) (index : ℕ) (i : Instruction) → index < length is → i ≡ get_or is index i → drop index is ≡ i ∷ drop (index + 1) is
 dropped is index i lt here =
     let next : suc index ≡ index + 1 = omega arith in
     drop-cons is index i lt ∙ (ap (λ j. j ∷ drop (suc index) is) (sym here) ∙ ap (λ n. i ∷ drop n is) next)

@@ -1,9 +1,11 @@
 mod BeforeFacts
 mod DraftFacts
 mod FaultsFacts
+mod ImageFacts
 mod MarkFacts
 mod NamingFacts
 mod RefusalFacts
 mod ResolvedFacts
 mod TableFacts
+mod TargetFacts
 mod WholeFacts

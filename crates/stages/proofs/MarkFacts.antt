@@ -15,7 +15,7 @@ use Rattle.stages.specs.declared.stage.ResolvedInstruction.{ResolvedInstruction}
 use Rattle.stages.specs.declared.stage.ResolvedStage.{ResolvedStage}
 use Rattle.stages.specs.Table.{IsBefore, IsResolved}
 use Rattle.stages.specs.Needed.{origins_in, stage_origins, Refers, IsNeeded, IsClosed, AreNeeded}
-use Rattle.stages.specs.PrivateMarks.{HasStage, AreStages}
+use Rattle.stages.specs.PrivateMarks.{HasStage, AreInPlace}
 
 stage_is : (a b : ℕ) → StageOf a ≡ StageOf b → a ≡ b
 stage_is a b e = cc
@@ -65,7 +65,7 @@ all_origins : (n : ℕ) (rs : List ResolvedInstruction) → All (IsResolved n) r
 all_origins n [] all = All-nil (IsBefore n)
 all_origins n (r ∷ rs) all = All-append (IsBefore n) r.origins (origins_in rs) (All-head (IsResolved n) r rs all).before (all_origins n rs (All-tail (IsResolved n) r rs all))
 
-refers_below : (stages : List ResolvedStage) (from to : ℕ) → AreStages stages → Refers stages from to → to < from
+refers_below : (stages : List ResolvedStage) (from to : ℕ) → AreInPlace stages → Refers stages from to → to < from
 refers_below stages from to are refers =
     let is = are from refers.stage refers.there in
     All-contains (IsBefore from) (stage_origins refers.stage) (StageOf to)
@@ -83,7 +83,7 @@ target_marked stages target none marks at long unmarked lt is from_end =
     unmarked lt is from_end
 
 -- what a marked stage names was marked
-pub named_marked : (stages : List ResolvedStage) (target at next : ℕ) (s : ResolvedStage) (old new : List Bool) → AreStages stages
+pub named_marked : (stages : List ResolvedStage) (target at next : ℕ) (s : ResolvedStage) (old new : List Bool) → AreInPlace stages
     → MarkedFrom (Refers stages) (length stages) target at old → 0 < at → next ≡ at - 1 → slice_get stages next ≡ Some s → is_marked old next ≡ true
     → MarksMore old new (HasStage (stage_origins s)) → MarkedFrom (Refers stages) (length stages) target next new
 named_marked stages target at next s old new are so_far pos is there marked more =

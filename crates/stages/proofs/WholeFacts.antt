@@ -5,8 +5,8 @@ use Rattle.std.specs.List.{All, cons_option, list_all, filter_map}
 use Rattle.std.proofs.lemmas.Bool.{true≢false}
 use Rattle.std.proofs.lemmas.List.{length_push, length-append, append_assoc}
 use Rattle.std.proofs.lemmas.List.Elements.{All-nil, All-cons, All-head, All-tail, filter_map-append}
-use Rattle.plain.specs.Limits.{most_lines}
-use Rattle.plain.specs.declared.refusal.Code.TheVariants.{R05, R13}
+use Rattle.plain.specs.Limits.{most_lines, most_stages}
+use Rattle.plain.specs.declared.refusal.Code.TheVariants.{R05}
 use Rattle.plain.specs.declared.fault.Fault.{Fault}
 use Rattle.plain.specs.declared.fault.Fault.TheVariants.{Because, Memory}
 use Rattle.options.specs.declared.copy.CopyFlags.{CopyFlags}
@@ -34,10 +34,10 @@ use Rattle.stages.specs.declared.stage.ResolvedStage.{ResolvedStage}
 use Rattle.stages.specs.Naming.{Names, Known, copy_reference, led_to, origins_of}
 use Rattle.stages.specs.Before.{begun, declared_by, name_begun, stage_names, outer_scope}
 use Rattle.stages.specs.Due.{outer_due, outer_fault, other_due, other_fault, reason_after, begun_due, begun_fault}
-use Rattle.stages.specs.Table.{TableValue, unless_begun, stage_instructions, stages_after, stages_of, lines_of, IsResolved, IsStage, IsTable, IsKnown, NamesKnown}
-use Rattle.stages.specs.Resolved.{target_of, reported_at, first_refusal, are_arguments, unless_refused, with_target, resolved, Returns}
+use Rattle.stages.specs.Table.{StagesValue, unless_begun, stage_instructions, stages_after, stages_of, stages_in, lines_of, IsResolved, IsStage, IsTable, AreStages, IsKnown, NamesKnown}
+use Rattle.stages.specs.Resolved.{target_of, reported_at, first_refusal, are_arguments, unless_refused, resolved_stages, Returns}
 use Rattle.stages.specs.PrivateResolving.{with_last, IsCounted, AreCounted, IsDraft, Drafts}
-use Rattle.stages.specs.PrivateTable.{table_by}
+use Rattle.stages.specs.PrivateTable.{stages_by, table_by}
 use Rattle.stages.proofs.NamingFacts.{found_within, base_before, base_known, origins_before, origins_known}
 use Rattle.stages.proofs.BeforeFacts.{stage_names-push}
 use Rattle.stages.proofs.TableFacts.{resolved_as, new_stage, stages_by, stages_long}
@@ -269,23 +269,23 @@ has_stage_by (name ∷ names) some = omega arith
 has_stage : (known : Known) (args : Values) (is : List Instruction) → first_refusal known args [] is ≡ None → are_arguments is ≡ false → 0 < length (stage_names is)
 has_stage known args is clear other = has_stage_by (stage_names is) (λ none. true≢false (sym (all_declare known args [] is clear none) ∙ other))
 
-target_within : (names : Names) (target : Option (List ℕ)) (number : ℕ) → 0 < length names → target_of names target ≡ Some number → number < length names
+pub target_within : (names : Names) (target : Option (List ℕ)) (number : ℕ) → 0 < length names → target_of names target ≡ Some number → number < length names
 target_within names None number some e = let h = some_is _ _ e in omega (arith, some, h)
 target_within names (Some text) number some e = found_within names text number e
 
 -- what the code has at the end makes the table
 
-pub table_whole : (known : Known) (args : Values) (target : Option (List ℕ)) (is : List Instruction) (draft : Draft) (stages : List ResolvedStage) (number : ℕ)
-    → IsDockerfile is → target_of (stage_names is) target ≡ Some number → are_arguments is ≡ false → first_refusal known args [] is ≡ None
-    → IsDraft known args is draft → stages ≡ with_last draft.stages draft.last → IsTable (table_by draft.outer stages number)
-table_whole known args target is draft stages number file found other clear of all =
+-- with each of the stages as its target
+table_at : (known : Known) (args : Values) (is : List Instruction) (draft : Draft) (stages : List ResolvedStage) (number : ℕ)
+    → IsDockerfile is → number < length stages → IsDraft known args is draft → stages ≡ with_last draft.stages draft.last
+    → IsTable (table_by draft.outer stages number)
+table_at known args is draft stages number file inside of all =
     let same : stages ≡ stages_of known args is = all ∙ of.stages in
     let long = ap length same ∙ stages_long known (outer_scope args is) [] is in
-    let inside = target_within (stage_names is) target number (has_stage known args is clear other) found in
     let lines = stages_lines known (outer_scope args is) [] 0 is file.ascend in
     let counted = subst (λ ss. All AreCounted ss) of.stages (with_last_all AreCounted draft.stages draft.last of.counted of.last_counted) in
     record {
-      has_target = omega (arith, long, inside);
+      has_target = inside;
       few = let h = ap length of.names in let few = of.few in omega (arith, h, long, few);
       each = λ k stage there.
           let n : length (stage_names []) + k ≡ k = omega arith in
@@ -295,97 +295,98 @@ table_whole known args target is draft stages number file found other clear of a
       short = subst (λ ss. length (lines_of ss) ≤ most_lines) (sym same) (let few = file.few in let h = lines.1 in omega (arith, few, h));
     }
 
-pub table_resolved : (known : Known) (args : Values) (target : Option (List ℕ)) (is : List Instruction) (draft : Draft) (stages : List ResolvedStage) (number : ℕ)
-    → target_of (stage_names is) target ≡ Some number → are_arguments is ≡ false → first_refusal known args [] is ≡ None
-    → IsDraft known args is draft → stages ≡ with_last draft.stages draft.last → resolved known args target is ≡ Ok (table_by draft.outer stages number)
-unfolding resolved
-table_resolved known args target is draft stages number found other clear of all =
-    ap (λ o. with_target known args is o) found
-    ∙ ap (λ b. unless_refused (if b then Some (record { reason = Coded R05; line = 1 }) else first_refusal known args [] is) (table_by (outer_scope args is) (stages_of known args is) number)) other
-    ∙ ap (λ r. unless_refused r (table_by (outer_scope args is) (stages_of known args is) number)) clear
-    ∙ ap (λ scope. Ok (table_by scope (stages_of known args is) number)) (sym of.outer)
-    ∙ ap (λ ss. Ok (table_by draft.outer ss number)) (sym (all ∙ of.stages))
+pub table_whole : (known : Known) (args : Values) (target : Option (List ℕ)) (is : List Instruction) (draft : Draft) (stages : List ResolvedStage) (number : ℕ)
+    → IsDockerfile is → target_of (stage_names is) target ≡ Some number → are_arguments is ≡ false → first_refusal known args [] is ≡ None
+    → IsDraft known args is draft → stages ≡ with_last draft.stages draft.last → IsTable (table_by draft.outer stages number)
+table_whole known args target is draft stages number file found other clear of all =
+    let long = ap length (all ∙ of.stages) ∙ stages_long known (outer_scope args is) [] is in
+    let inside = target_within (stage_names is) target number (has_stage known args is clear other) found in
+    table_at known args is draft stages number file (omega (arith, long, inside)) of all
 
-pub table_known : (known : Known) (args : Values) (is : List Instruction) (draft : Draft) (stages : List ResolvedStage)
-    → IsDraft known args is draft → stages ≡ with_last draft.stages draft.last → All (NamesKnown known) stages
-table_known known args is draft stages of all = subst (λ ss. All (NamesKnown known) ss) (sym (all ∙ of.stages)) (names_known known args is)
+stages_whole : (known : Known) (args : Values) (is : List Instruction) (draft : Draft)
+    → IsDockerfile is → are_arguments is ≡ false → first_refusal known args [] is ≡ None → IsDraft known args is draft
+    → AreStages (stages_by draft.outer draft.names (with_last draft.stages draft.last))
+stages_whole known args is draft file other clear of =
+    let long = ap length of.stages ∙ stages_long known (outer_scope args is) [] is in
+    let names = ap length of.names in
+    let some = has_stage known args is clear other in
+    record {
+      some = omega (arith, long, some);
+      named = names ∙ sym long;
+      each = λ target inside. table_at known args is draft (with_last draft.stages draft.last) target file inside of refl;
+    }
 
-pub unknown_target : (known : Known) (args : Values) (target : Option (List ℕ)) (is : List Instruction) → target_of (stage_names is) target ≡ None
-    → resolved known args target is ≡ Err (record { reason = Coded R13; line = 0 })
-unfolding resolved
-unknown_target known args target is none = ap (λ o. with_target known args is o) none
-
-pub no_stage : (known : Known) (args : Values) (target : Option (List ℕ)) (is : List Instruction) (number : ℕ) → target_of (stage_names is) target ≡ Some number
-    → are_arguments is ≡ true → resolved known args target is ≡ Err (record { reason = Coded R05; line = 1 })
-unfolding resolved
-no_stage known args target is number found all =
-    ap (λ o. with_target known args is o) found
-    ∙ ap (λ b. unless_refused (if b then Some (record { reason = Coded R05; line = 1 }) else first_refusal known args [] is) (table_by (outer_scope args is) (stages_of known args is) number)) all
-
-pub refused : (known : Known) (args : Values) (target : Option (List ℕ)) (is : List Instruction) (number : ℕ) (refusal : Rejection)
-    → target_of (stage_names is) target ≡ Some number → are_arguments is ≡ false → first_refusal known args [] is ≡ Some refusal
-    → resolved known args target is ≡ Err refusal
-unfolding resolved
-refused known args target is number refusal found other due =
-    ap (λ o. with_target known args is o) found
-    ∙ ap (λ b. unless_refused (if b then Some (record { reason = Coded R05; line = 1 }) else first_refusal known args [] is) (table_by (outer_scope args is) (stages_of known args is) number)) other
-    ∙ ap (λ r. unless_refused r (table_by (outer_scope args is) (stages_of known args is) number)) due
+-- there are no more names than a file may have stages
+pub few_names : (stages : StagesValue) (names : Names) → names ≡ stages.names → AreStages stages → length names ≤ most_stages
+few_names stages names same are =
+    let long = ap length same ∙ are.named in
+    let few = (are.each 0 are.some).few in
+    omega (arith, long, few)
 
 -- what the call answers, by what it asked of the instructions, which it has by other names
-
-target_along : (target : Option (List ℕ)) (is slice : List Instruction) (result wanted : Option ℕ) → slice ≡ is
-    → result ≡ target_of (stage_names slice) target → result ≡ wanted → target_of (stage_names is) target ≡ wanted
-target_along target is slice result wanted same asked is_so = ap (λ js. target_of (stage_names js) target) (sym same) ∙ sym asked ∙ is_so
 
 flag_along : (is slice : List Instruction) (flag wanted : Bool) → slice ≡ is → flag ≡ are_arguments slice → flag ≡ wanted → are_arguments is ≡ wanted
 flag_along is slice flag wanted same asked is_so = ap are_arguments (sym same) ∙ sym asked ∙ is_so
 
-pub answers_target : (known : Known) (args : Values) (target : Option (List ℕ)) (is slice : List Instruction) (result : Option ℕ) (fault : Fault Rejection) → slice ≡ is
-    → result ≡ target_of (stage_names slice) target → result ≡ None → fault ≡ Because (record { reason = Coded R13; line = 0 })
-    → Returns (resolved known args target is) (Err fault)
-answers_target known args target is slice result fault same asked none reported =
-    subst (λ f. Returns (resolved known args target is) (Err f)) (sym reported)
-    (unknown_target known args target is (target_along target is slice result None same asked none))
+stages_clear : (known : Known) (args : Values) (is : List Instruction) → are_arguments is ≡ false → first_refusal known args [] is ≡ None
+    → resolved_stages known args is ≡ Ok (stages_in known args is)
+unfolding resolved_stages
+stages_clear known args is other clear =
+    ap (λ b. unless_refused (if b then Some (record { reason = Coded R05; line = 1 }) else first_refusal known args [] is) (stages_in known args is)) other
+    ∙ ap (λ r. unless_refused r (stages_in known args is)) clear
 
-pub answers_arguments : (known : Known) (args : Values) (target : Option (List ℕ)) (is slice other : List Instruction) (result : Option ℕ) (number : ℕ) (flag : Bool) (fault : Fault Rejection)
-    → slice ≡ is → other ≡ is → result ≡ target_of (stage_names slice) target → result ≡ Some number → flag ≡ are_arguments other → flag ≡ true
-    → fault ≡ Because (record { reason = Coded R05; line = 1 }) → Returns (resolved known args target is) (Err fault)
-answers_arguments known args target is slice other result number flag fault same same_other asked some tested holds reported =
-    subst (λ f. Returns (resolved known args target is) (Err f)) (sym reported)
-    (no_stage known args target is number (target_along target is slice result (Some number) same asked some) (flag_along is other flag true same_other tested holds))
+stages_refused : (known : Known) (args : Values) (is : List Instruction) (refusal : Rejection) → are_arguments is ≡ false
+    → first_refusal known args [] is ≡ Some refusal → resolved_stages known args is ≡ Err refusal
+unfolding resolved_stages
+stages_refused known args is refusal other due =
+    ap (λ b. unless_refused (if b then Some (record { reason = Coded R05; line = 1 }) else first_refusal known args [] is) (stages_in known args is)) other
+    ∙ ap (λ r. unless_refused r (stages_in known args is)) due
 
-refused_by : (known : Known) (args : Values) (target : Option (List ℕ)) (is : List Instruction) (number : ℕ) (fault : Fault Rejection)
-    → target_of (stage_names is) target ≡ Some number → are_arguments is ≡ false → Drafts known args is (Err fault)
-    → Returns (resolved known args target is) (Err fault)
-refused_by known args target is number (Because refusal) found other due = refused known args target is number refusal found other due
-refused_by known args target is number Memory found other due = tt
+stages_missing : (known : Known) (args : Values) (is : List Instruction) → are_arguments is ≡ true
+    → resolved_stages known args is ≡ Err (record { reason = Coded R05; line = 1 })
+unfolding resolved_stages
+stages_missing known args is all =
+    ap (λ b. unless_refused (if b then Some (record { reason = Coded R05; line = 1 }) else first_refusal known args [] is) (stages_in known args is)) all
 
-pub answers_refused : (known : Known) (args : Values) (target : Option (List ℕ)) (is slice other items : List Instruction) (result : Option ℕ) (number : ℕ) (flag : Bool) (fault : Fault Rejection)
-    → slice ≡ is → other ≡ is → items ≡ is → result ≡ target_of (stage_names slice) target → result ≡ Some number → flag ≡ are_arguments other → flag ≡ false
-    → Drafts known args items (Err fault) → Returns (resolved known args target is) (Err fault)
-answers_refused known args target is slice other items result number flag fault same same_other same_items asked some tested fails drafts =
-    refused_by known args target is number fault (target_along target is slice result (Some number) same asked some) (flag_along is other flag false same_other tested fails)
-    (subst (λ js. Drafts known args js (Err fault)) same_items drafts)
+draft_stages : (known : Known) (args : Values) (is : List Instruction) (draft : Draft) → IsDraft known args is draft
+    → stages_by draft.outer draft.names (with_last draft.stages draft.last) ≡ stages_in known args is
+draft_stages known args is draft of =
+    ap (λ outer. stages_by outer draft.names (with_last draft.stages draft.last)) of.outer
+    ∙ ap (λ names. stages_by (outer_scope args is) names (with_last draft.stages draft.last)) of.names
+    ∙ ap (λ stages. stages_by (outer_scope args is) (stage_names is) stages) of.stages
 
-pub whole_requires : (known : Known) (args : Values) (target : Option (List ℕ)) (is slice other items : List Instruction) (result : Option ℕ) (number : ℕ) (flag : Bool) (draft : Draft)
-    → IsDockerfile is
-    → slice ≡ is → other ≡ is → items ≡ is → result ≡ target_of (stage_names slice) target → result ≡ Some number → flag ≡ are_arguments other → flag ≡ false
-    → Drafts known args items (Ok draft) → IsTable (table_by draft.outer (with_last draft.stages draft.last) number)
-whole_requires known args target is slice other items result number flag draft file same same_other same_items asked some tested fails drafts =
+pub answers_arguments : (known : Known) (args : Values) (is slice : List Instruction) (flag : Bool) (fault : Fault Rejection) → slice ≡ is
+    → flag ≡ are_arguments slice → flag ≡ true → fault ≡ Because (record { reason = Coded R05; line = 1 })
+    → Returns (resolved_stages known args is) (Err fault)
+answers_arguments known args is slice flag fault same tested holds reported =
+    subst (λ f. Returns (resolved_stages known args is) (Err f)) (sym reported) (stages_missing known args is (flag_along is slice flag true same tested holds))
+
+refused_by : (known : Known) (args : Values) (is : List Instruction) (fault : Fault Rejection) → are_arguments is ≡ false → Drafts known args is (Err fault)
+    → Returns (resolved_stages known args is) (Err fault)
+refused_by known args is (Because refusal) other due = stages_refused known args is refusal other due
+refused_by known args is Memory other due = tt
+
+pub answers_refused : (known : Known) (args : Values) (is slice items : List Instruction) (flag : Bool) (fault : Fault Rejection) → slice ≡ is → items ≡ is
+    → flag ≡ are_arguments slice → flag ≡ false → Drafts known args items (Err fault) → Returns (resolved_stages known args is) (Err fault)
+answers_refused known args is slice items flag fault same same_items tested fails drafts =
+    refused_by known args is fault (flag_along is slice flag false same tested fails) (subst (λ js. Drafts known args js (Err fault)) same_items drafts)
+
+pub whole_requires : (known : Known) (args : Values) (is slice items : List Instruction) (flag : Bool) (draft : Draft) → IsDockerfile is → slice ≡ is → items ≡ is
+    → flag ≡ are_arguments slice → flag ≡ false → Drafts known args items (Ok draft)
+    → AreStages (stages_by draft.outer draft.names (with_last draft.stages draft.last))
+whole_requires known args is slice items flag draft file same same_items tested fails drafts =
     let of = subst (λ js. Drafts known args js (Ok draft)) same_items drafts in
-    table_whole known args target is draft (with_last draft.stages draft.last) number file (target_along target is slice result (Some number) same asked some)
-    (flag_along is other flag false same_other tested fails) of.0 of.1 refl
+    stages_whole known args is draft file (flag_along is slice flag false same tested fails) of.0 of.1
 
-pub answers_table : (known : Known) (args : Values) (target : Option (List ℕ)) (is slice other items : List Instruction) (result : Option ℕ) (number : ℕ) (flag : Bool) (draft : Draft) (table : TableValue)
-    → slice ≡ is → other ≡ is → items ≡ is → result ≡ target_of (stage_names slice) target → result ≡ Some number → flag ≡ are_arguments other → flag ≡ false
-    → Drafts known args items (Ok draft) → table ≡ table_by draft.outer (with_last draft.stages draft.last) number
-    → resolved known args target is ≡ Ok table
-answers_table known args target is slice other items result number flag draft table same same_other same_items asked some tested fails drafts made =
+pub answers_table : (known : Known) (args : Values) (is slice items : List Instruction) (flag : Bool) (draft : Draft) (table : StagesValue) → slice ≡ is → items ≡ is
+    → flag ≡ are_arguments slice → flag ≡ false → Drafts known args items (Ok draft)
+    → table ≡ stages_by draft.outer draft.names (with_last draft.stages draft.last) → resolved_stages known args is ≡ Ok table
+answers_table known args is slice items flag draft table same same_items tested fails drafts made =
     let of = subst (λ js. Drafts known args js (Ok draft)) same_items drafts in
-    table_resolved known args target is draft (with_last draft.stages draft.last) number (target_along target is slice result (Some number) same asked some)
-    (flag_along is other flag false same_other tested fails) of.0 of.1 refl ∙ ap (λ t. Ok t) (sym made)
+    stages_clear known args is (flag_along is slice flag false same tested fails) of.0 ∙ ap (λ t. Ok t) (sym (draft_stages known args is draft of.1) ∙ sym made)
 
-pub table_known_by : (known : Known) (args : Values) (items : List Instruction) (number : ℕ) (draft : Draft) (table : TableValue)
-    → Drafts known args items (Ok draft) → table ≡ table_by draft.outer (with_last draft.stages draft.last) number → All (NamesKnown known) table.stages
-table_known_by known args items number draft table drafts made =
-    subst (λ (t : TableValue). All (NamesKnown known) t.stages) (sym made) (table_known known args items draft (with_last draft.stages draft.last) drafts.1 refl)
+pub table_known_by : (known : Known) (args : Values) (items : List Instruction) (draft : Draft) (table : StagesValue) → Drafts known args items (Ok draft)
+    → table ≡ stages_by draft.outer draft.names (with_last draft.stages draft.last) → All (NamesKnown known) table.stages
+table_known_by known args items draft table drafts made =
+    let stages : table.stages ≡ stages_of known args items = ap (λ (t : StagesValue). t.stages) made ∙ drafts.1.stages in
+    subst (λ ss. All (NamesKnown known) ss) (sym stages) (names_known known args items)

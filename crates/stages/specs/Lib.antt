@@ -1,9 +1,11 @@
 pub mod Before
 pub mod Due
 pub mod Faults
+pub mod ImageNames
 pub mod Naming
 pub mod Needed
 pub mod PrivateFaults
+pub mod PrivateImageNames
 pub mod PrivateMarks
 pub mod PrivateResolving
 pub mod PrivateTable

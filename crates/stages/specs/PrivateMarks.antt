@@ -10,5 +10,5 @@ abbrev pub HasStage : List Origin → ℕ → Type 0
 HasStage origins stage = Contains origins (StageOf stage)
 
 -- each of some stages is one in its place
-abbrev pub AreStages : List ResolvedStage → Type 0
-AreStages stages = (number : ℕ) (stage : ResolvedStage) → slice_get stages number ≡ Some stage → IsStage number stage
+abbrev pub AreInPlace : List ResolvedStage → Type 0
+AreInPlace stages = (number : ℕ) (stage : ResolvedStage) → slice_get stages number ≡ Some stage → IsStage number stage

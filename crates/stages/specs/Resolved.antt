@@ -12,7 +12,7 @@ use Rattle.scopes.specs.Evaluate.{Values}
 use Rattle.stages.specs.Naming.{Names, Known, stage_found}
 use Rattle.stages.specs.Before.{declared_by, stage_names, outer_scope}
 use Rattle.stages.specs.Due.{reason_after}
-use Rattle.stages.specs.Table.{TableValue, stages_of}
+use Rattle.stages.specs.Table.{StagesValue, TableValue, stages_of, stages_in}
 
 -- the number of the target among the stages of these names: of the one that is named by its number or its name, and none where there is no
 -- such stage; where none is named that of the last, and 0 where there is no stage at all, as for a file without a FROM, for which R05 is due
@@ -41,9 +41,14 @@ abbrev pub refusal_of : Known → Values → List Instruction → Option Rejecti
 refusal_of known args is = if are_arguments is then Some (record { reason = Coded R05; line = 1 }) else first_refusal known args [] is
 
 -- a table, unless there is a refusal
-abbrev pub unless_refused : Option Rejection → TableValue → Result TableValue Rejection
+abbrev pub unless_refused : {T : Type 0} → Option Rejection → T → Result T Rejection
 unless_refused None table = Ok table
 unless_refused (Some refusal) table = Err refusal
+
+-- what the instructions of a file are resolved to where no target is asked for, with these images and build arguments: its stages, or its
+-- refusal
+unfoldable pub resolved_stages : Known → Values → List Instruction → Result StagesValue Rejection
+resolved_stages known args is = unless_refused (refusal_of known args is) (stages_in known args is)
 
 -- a file for a target that is one of its stages or isn't: R13, without a line, comes before all else
 abbrev pub with_target : Known → Values → List Instruction → Option ℕ → Result TableValue Rejection

@@ -19,14 +19,24 @@ use Rattle.scopes.specs.declared.declaration.Declaration.{Declaration}
 use Rattle.stages.specs.declared.stage.ResolvedInstruction.{ResolvedInstruction}
 use Rattle.stages.specs.declared.stage.ResolvedStage.{ResolvedStage}
 use Rattle.stages.specs.Naming.{Names, Known, references, origins_of}
-use Rattle.stages.specs.Before.{begun, name_begun, outer_scope}
+use Rattle.stages.specs.Before.{begun, name_begun, stage_names, outer_scope}
 use Rattle.stages.specs.Due.{base_text, base_found}
+
+-- the scope of the ARGs before the first FROM, and the stages by their numbers, with their names
+pub record StagesValue : Type 0 where
+  pub outer : List Declaration
+  pub names : Names
+  pub stages : List ResolvedStage
 
 -- the scope of the ARGs before the first FROM, the stages by their numbers, and the number of the target
 pub record TableValue : Type 0 where
   pub outer : List Declaration
   pub stages : List ResolvedStage
   pub target : ℕ
+
+-- stages with one of them as the target
+abbrev pub targeted : StagesValue → ℕ → TableValue
+targeted stages target = record { outer = stages.outer; stages = stages.stages; target = target }
 
 -- what a stage begins with; if its text has no value or leads nowhere, its file is refused, and the empty tree stands for it
 abbrev pub base_of : Known → List Declaration → Names → Parts → Origin
@@ -58,6 +68,10 @@ stages_after known scope names (i ∷ is) =
 -- the stages of a file, with these images and build arguments
 abbrev pub stages_of : Known → Values → List Instruction → List ResolvedStage
 stages_of known args is = stages_after known (outer_scope args is) [] is
+
+-- the stages of a file, with their names and the scope of the ARGs before the first FROM
+abbrev pub stages_in : Known → Values → List Instruction → StagesValue
+stages_in known args is = record { outer = outer_scope args is; names = stage_names is; stages = stages_of known args is }
 
 -- the lines of a stage: that of its FROM, and those of its instructions
 abbrev pub stage_lines : ResolvedStage → List ℕ
@@ -96,6 +110,12 @@ pub record IsTable (table : TableValue) : Type 0 where
   pub each : (number : ℕ) (stage : ResolvedStage) → slice_get table.stages number ≡ Some stage → IsStage number stage
   pub lines : AreLines (lines_of table.stages)
   pub short : length (lines_of table.stages) ≤ most_lines
+
+-- what all stages of a file keep: there is one, each has a name or none, and with each of them as the target they are a table
+pub record AreStages (stages : StagesValue) : Type 0 where
+  pub some : 0 < length stages.stages
+  pub named : length stages.names ≡ length stages.stages
+  pub each : (target : ℕ) → target < length stages.stages → IsTable (targeted stages target)
 
 -- an image that is named is one that the build was given
 abbrev pub IsKnown : Known → Origin → Type 0

@@ -14,6 +14,7 @@ ghost use Rattle.stages.specs.PrivateFaults.{outer_with, outer_other, outer_by, 
 
 use crate::resolving::{base, begun, declared_by, inner_origins};
 use crate::target::{are_arguments, target_of};
+use dockerfile::Dockerfile;
 use expand::{Reason, ReasonFault, Rejection, Word};
 use instructions::{Argument, Instruction, InstructionKind};
 use plain::{Code, Exact, Fault, Items, Memory, Text};
@@ -52,7 +53,7 @@ fn base_reason<C>(
 }
 
 /// Adds a name to some.
-fn push_name(
+pub(crate) fn push_name(
     alloc: Global,
     names: &mut Items<Option<Text>>,
     name: &Option<Text>,
@@ -101,7 +102,7 @@ fn inner_reason<C>(
 }
 
 /// The reason to refuse an ARG before the first FROM, which is declared if there is none.
-fn argument_reason(
+pub(crate) fn argument_reason(
     alloc: Global,
     keys: RandomState,
     args: &Args,
@@ -254,18 +255,23 @@ fn with_line_refusals<C>(
     Ok(refusals)
 }
 
-/// All refusals of a file.
-pub(crate) fn all_refusals<C>(
+/// All that the names of a file are refused for, with these images, build arguments and target, in the order of the lines (own): R13 for the
+/// target, R05 at line 1 if there is no instruction other than ARG, and for each line for which a code is due the least of its codes. The
+/// refusal of an ARG before the first FROM is the last, since the lines after it would be judged by its value.
+///
+/// The first of these is what [`TargetTable::resolve`](crate::TargetTable::resolve) refuses the file with, and there is none exactly if that
+/// gives a table, as the law `the_first_fault_is_the_refusal` says.
+pub fn list_refusals<C>(
     alloc: Global,
     keys: RandomState,
+    file: &Dockerfile,
     images: &Images<C>,
     args: &Args,
-    instructions: &[Instruction],
     target: Option<&Text>,
 ) -> Result<Items<Rejection>, Memory>
-    requires { length instructions.now ≤ most_lines }
-    ensures { IfOk result (λ refusals. refusals ≡ stage_refusals (names_in images.now) (arg_value args.now) (option_map (λ t. t.now) target.entry) instructions.now) }
+    ensures { IfOk result (λ refusals. refusals ≡ stage_refusals (names_in images.now) (arg_value args.now) (option_map (λ t. t.now) target.entry) file.now) }
 {
+    let instructions = file.instructions();
     let refusals = whole_refusals(alloc, instructions, target)?;
     with_line_refusals(alloc, keys, images, args, instructions, refusals)
 }

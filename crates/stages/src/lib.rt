@@ -7,13 +7,14 @@
 // refusal, the least of all that are due (specs/Refusals.antt, `laws`). `IsNeeded` in specs/Needed.antt says which stages a target needs.
 //
 // ```
-// let table = StageTable::resolve(alloc, keys, file, &images, &args, None)?;     // FROM scratch AS a; FROM scratch; COPY --from=a /x /x
-// table.target()                                                                 // 1
-// table.needed(alloc)?                                                           // both stages
+// let table = StageTable::resolve(alloc, keys, file, &images, &args)?;     // FROM scratch AS a; FROM scratch; COPY --from=a /x /x
+// table.target(None)                                                       // Some(1)
+// table.needed(alloc, 1)?                                                  // both stages
 // ```
 #![tactic(auto)]
 
 mod faults;
+mod image_name;
 pub mod laws;
 mod marks;
 mod names;
@@ -22,7 +23,11 @@ mod resolving;
 mod stage;
 mod table;
 mod target;
+mod target_table;
 
+pub use faults::list_refusals;
+pub use image_name::{ImageName, image_names};
 pub use names::stage_names;
 pub use stage::{ResolvedInstruction, ResolvedStage};
 pub use table::StageTable;
+pub use target_table::TargetTable;

@@ -4,7 +4,7 @@ ghost use Rattle.std.specs.List.{All};
 ghost use Rattle.plain.specs.PrivateMarks.{MarksMore};
 ghost use Rattle.stages.specs.Table.{IsBefore};
 ghost use Rattle.stages.specs.Needed.{origins_in, stage_origins, AreNeeded};
-ghost use Rattle.stages.specs.PrivateMarks.{HasStage, AreStages};
+ghost use Rattle.stages.specs.PrivateMarks.{HasStage, AreInPlace};
 
 use crate::stage::{ResolvedInstruction, ResolvedStage};
 use plain::{Items, Memory, no_marks};
@@ -59,7 +59,7 @@ pub(crate) fn mark_needed(
     stages: &[ResolvedStage],
     target: u32,
 ) -> Result<Items<bool>, Memory>
-    requires stages { AreStages stages.now }
+    requires stages { AreInPlace stages.now }
     requires target { target < length stages.now }
     ensures { IfOk result (AreNeeded stages.now target) }
 {

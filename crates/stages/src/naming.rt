@@ -3,7 +3,7 @@ ghost use Rattle.std.specs.Prelude.{◌≡◌, ◌<◌, ◌^◌, [], ◌∷◌, 
 ghost use Rattle.std.specs.List.{filter_map};
 ghost use Rattle.llb.specs.WellFormed.{is_well_formed_source};
 ghost use Rattle.llb.specs.declared.op.Source.TheVariants as source;
-ghost use Rattle.stages.specs.Naming.{is_called, stage_called, stage_numbered, image_named, stage_or_image, base_named};
+ghost use Rattle.stages.specs.Naming.{is_called, stage_called, stage_numbered, stage_found, image_named, stage_or_image, base_named};
 ghost use Rattle.stages.specs.Naming.{names_in, copy_reference, bind_reference, mount_reference, references, led_to, origins_of};
 ghost use Rattle.instructions.specs.Least.{Meets};
 ghost use Rattle.stages.specs.Due.{inner_due};
@@ -58,8 +58,20 @@ fn stage_numbered(names: &[Option<Text>], text: &Text) -> Option<u32>
     }
 }
 
+/// The number of the stage that a text names, by its number in decimal digits, else by its name.
+pub(crate) fn stage_found(names: &[Option<Text>], text: &Text) -> Option<u32>
+    requires { length names.now < 2 ^ 32 }
+    ensures { result ≡ stage_found names.now text.now }
+{
+    if are_digits(text.as_str().as_bytes()) {
+        stage_numbered(names, text)
+    } else {
+        stage_called(names, text)
+    }
+}
+
 /// Whether a text may be the name of an image.
-fn is_image_name(text: &Text) -> bool
+pub(crate) fn is_image_name(text: &Text) -> bool
     ensures { result ≡ is_well_formed_source (source.Image text.now) }
 {
     text.len() != 0 && text.as_str() != "scratch"

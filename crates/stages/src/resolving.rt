@@ -327,7 +327,7 @@ fn declare(
 }
 
 /// The names of all stages but the last.
-fn all_but_last(names: &[Option<Text>]) -> &[Option<Text>]
+pub(crate) fn all_but_last(names: &[Option<Text>]) -> &[Option<Text>]
     ensures { result.now ≡ all_but_last names.now }
 {
     &names[..names.len().saturating_sub(1)]

@@ -1,38 +1,28 @@
-use Rattle.std.proofs.Common.{◌∙◌, Bor, option_map}
-use Rattle.plain.specs.declared.text.Text.{Text}
-use Rattle.stages.proofs.WholeFacts.{answers_target, answers_arguments, answers_refused, whole_requires, answers_table, table_known_by}
+use Rattle.std.proofs.Common.{◌∙◌}
+use Rattle.stages.proofs.WholeFacts.{answers_arguments, answers_refused, whole_requires, answers_table, table_known_by}
 use Rattle.stages.proofs.table.StageTable.resolve.Goals as goal
-
-pub returns-in-None-clause-table : goal.returns-in-None-clause-table
-returns-in-None-clause-table g c =
-    answers_target _ _ _ c.args.file _ _ c.refused.result (c.as_slice.ensures ∙ c.into_instructions-instructions.ensures.list) c.target_of.ensures
-    c.in-None.is c.refused.ensures
 
 pub returns-then-are_arguments-clause-table : goal.returns-then-are_arguments-clause-table
 returns-then-are_arguments-clause-table g c =
-    let list = c.into_instructions-instructions.ensures.list in
-    answers_arguments _ _ _ c.args.file _ _ _ c.in-Some.target _ c.refused-then-are_arguments.result (c.as_slice.ensures ∙ list)
-    (c.as_slice-2.ensures ∙ list) c.target_of.ensures c.in-Some.is c.are_arguments.ensures c.if-are_arguments.true
-    c.refused-then-are_arguments.ensures
+    answers_arguments _ _ c.args.file _ _ c.refused.result (c.as_slice.ensures ∙ c.into_instructions-instructions.ensures.list)
+    c.are_arguments.ensures c.if-are_arguments.true c.refused.ensures
 
 pub returns-in-Err-clause-table : goal.returns-in-Err-clause-table
 returns-in-Err-clause-table g c =
     let list = c.into_instructions-instructions.ensures.list in
-    answers_refused _ _ _ c.args.file _ _ _ _ c.in-Some.target _ c.in-Err.fault (c.as_slice.ensures ∙ list) (c.as_slice-2.ensures ∙ list)
-    (c.into_vec.ensures ∙ list) c.target_of.ensures c.in-Some.is c.are_arguments.ensures c.if-are_arguments.false c.in-Err.ensures
+    answers_refused _ _ c.args.file _ _ _ c.in-Err.fault (c.as_slice.ensures ∙ list) (c.into_vec.ensures ∙ list) c.are_arguments.ensures
+    c.if-are_arguments.false c.in-Err.ensures
 
 pub of_draft-requires : goal.of_draft-requires
 of_draft-requires g c =
-    whole_requires _ _ (option_map (λ (t : Bor Text). t.now) c.args.target) c.into_instructions-instructions.result _ _ _ _ c.in-Some.target _
-    c.in-Ok.draft c.into_instructions-instructions.ensures.whole c.as_slice.ensures c.as_slice-2.ensures c.into_vec.ensures c.target_of.ensures
-    c.in-Some.is c.are_arguments.ensures c.if-are_arguments.false c.in-Ok.ensures
+    whole_requires _ _ c.into_instructions-instructions.result _ _ _ c.in-Ok.draft c.into_instructions-instructions.ensures.whole
+    c.as_slice.ensures c.into_vec.ensures c.are_arguments.ensures c.if-are_arguments.false c.in-Ok.ensures
 
 pub returns-clause-table : goal.returns-clause-table
 returns-clause-table g c =
     let list = c.into_instructions-instructions.ensures.list in
-    answers_table _ _ _ c.args.file _ _ _ _ c.in-Some.target _ c.in-Ok.draft c.in_ok-table.table (c.as_slice.ensures ∙ list)
-    (c.as_slice-2.ensures ∙ list) (c.into_vec.ensures ∙ list) c.target_of.ensures c.in-Some.is c.are_arguments.ensures c.if-are_arguments.false
-    c.in-Ok.ensures c.in_ok-table.ensures
+    answers_table _ _ c.args.file _ _ _ c.in-Ok.draft c.in_ok-table.table (c.as_slice.ensures ∙ list) (c.into_vec.ensures ∙ list)
+    c.are_arguments.ensures c.if-are_arguments.false c.in-Ok.ensures c.in_ok-table.ensures
 
 pub returns-clause-known : goal.returns-clause-known
-returns-clause-known g c = table_known_by _ _ _ c.in-Some.target c.in-Ok.draft c.in_ok-table.table c.in-Ok.ensures c.in_ok-table.ensures
+returns-clause-known g c = table_known_by _ _ _ c.in-Ok.draft c.in_ok-table.table c.in-Ok.ensures c.in_ok-table.ensures
