@@ -17,12 +17,12 @@ use Rattle.reached.proofs.FlatFacts.{flat_there, flat_after, as_many}
 use Rattle.reached.proofs.SpellingFacts.{there_is, merge_is, no_merge, flat_low, spelled_merge}
 use Rattle.reached.specs.Reached.{AreReached}
 use Rattle.reached.specs.Spelled.{flat_inputs, flat_vertex, flat_vertices, is_merge, spelled_out}
-use Rattle.rewrite.specs.PrivateFlat.{MergesDiffer, last_of}
+use Rattle.rewrite.specs.PrivateFlat.{MergesDiffer}
 use Rattle.rewrite.specs.PrivateJoined.{HasName, AreJoined}
 use Rattle.rewrite.specs.PrivateSpelled.{AreSpelled, HasMerge, HasSpelled, IsFlatOf, IsFlatOne, TakesLines, flat_graph, spelled_vertex}
 use Rattle.rewrite.specs.declared.spelled.Spelled.{Spelled}
 use Rattle.rewrite.specs.Pruned.{Names, AreNames, IsRenamed}
-use Rattle.rewrite.proofs.FreshFacts.{flat_distinct, last_flat, marked_before, one_below, same_olds}
+use Rattle.rewrite.proofs.FreshFacts.{flat_distinct, marked_before, merges_differ, one_below, same_olds}
 use Rattle.rewrite.proofs.JoinFacts.{lines_at_are}
 use Rattle.rewrite.proofs.MarkedFacts.{marked_within, reached_marked}
 use Rattle.rewrite.proofs.ReachFacts.{IsNoMerge, all_spelled_reached, one_renamed, reached_flat}
@@ -73,7 +73,7 @@ module _ (graph flat : GraphValue) (target : ℕ) (marks before : List Bool) (na
       let on = reached_flat graph.vertices are path.0 target k path.1 plain in
       reached_marked (flat_vertices graph.vertices) target marks on.0 target k reached reached.has_first on.1
 
-  -- ---- where no two merges have the same last input
+  -- ---- where merges differ
 
   low_inputs : (k : ℕ) (v : Vertex) → slice_get graph.vertices k ≡ Some v → All (λ i. i < length graph.vertices) (flat_inputs graph.vertices v.op v.inputs)
   low_inputs k v there =
@@ -101,9 +101,7 @@ module _ (graph flat : GraphValue) (target : ℕ) (marks before : List Bool) (na
         let inputs : flat_inputs vs one.vertex.op one.vertex.inputs ≡ flat_inputs vs w.vertex.op w.vertex.inputs =
         same_olds names (length vs) (flat_inputs vs one.vertex.op one.vertex.inputs) (flat_inputs vs w.vertex.op w.vertex.inputs) one.renamed.inputs number
         (low_inputs k one.vertex one.there) (low_inputs j w.vertex w.there) one.same.inputs w_names in
-        let lasts : last_of one.vertex.inputs ≡ last_of w.vertex.inputs =
-        sym (last_flat vs are k one.vertex one.there merge) ∙ (ap last_of inputs ∙ last_flat vs are j w.vertex w.there w_op) in
-        let equal : k ≡ j = differ k j one.vertex w.vertex marked other.0 one.there w.there merge w_op lasts in
+        let equal : k ≡ j = merges_differ vs are before differ k j one.vertex w.vertex marked other.0 one.there w.there merge w_op inputs in
         subst (λ n. slice_get names n ≡ Some (Some id)) (sym equal) from.1
 
     all_named : (k id : ℕ) → is_marked before k ≡ true → (one : IsFlatOne graph flat names k id) → (b : Bool) → is_merge one.vertex.op ≡ b → slice_get names k ≡ Some (Some id)

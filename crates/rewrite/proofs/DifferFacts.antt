@@ -7,7 +7,7 @@ use Rattle.llb.specs.declared.op.Op.TheVariants.{Merge as MergeOp}
 use Rattle.llb.specs.declared.vertex.Vertex.{Vertex}
 use Rattle.plain.specs.Marks.{is_marked}
 use Rattle.reached.specs.Spelled.{is_merge}
-use Rattle.rewrite.specs.PrivateFlat.{last_of, MergesDiffer, MarksLast}
+use Rattle.rewrite.specs.PrivateFlat.{last_of, LastsDiffer, MarksLast}
 
 -- the merges before a number differ, and the last input of each is marked
 pub record DifferSoFar (vertices : List Vertex) (marks lasts : List Bool) (at : ℕ) : Type 0 where
@@ -83,7 +83,7 @@ module _ (vertices : List Vertex) (marks old new : List Bool) (at : ℕ) (u : Ve
   }
 
 pub all_differ : (vertices : List Vertex) (marks lasts : List Bool) (at : ℕ) → length vertices ≤ at → DifferSoFar vertices marks lasts at
-    → MergesDiffer vertices marks
+    → LastsDiffer vertices marks
 all_differ vertices marks lasts at over so_far j k v w at_j at_k there_j there_k v_merge w_merge same =
     let j_in = slice_get_within vertices j v there_j in
     let k_in = slice_get_within vertices k w there_k in

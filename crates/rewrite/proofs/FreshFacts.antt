@@ -1,5 +1,5 @@
 -- Vertices of which no two are equal don't become equal on their new numbers, so each of them is new where it comes.
-use Rattle.std.proofs.Common.{◌≡◌, ◌<◌, ◌≤◌, ◌+◌, ◌-◌, ℕ, zero, suc, Bool, true, false, List, [], ◌∷◌, ◌++◌, Some, refl, sym, ap, ap₂, ◌∙◌, subst, arith, length, length-append}
+use Rattle.std.proofs.Common.{◌≡◌, ◌<◌, ◌≤◌, ◌+◌, ◌-◌, ℕ, zero, suc, Bool, true, false, List, [], ◌∷◌, ◌++◌, Some, inl, inr, refl, sym, ap, ap₂, ◌∙◌, subst, arith, length, length-append}
 use Rattle.std.specs.Prelude.{get_or, slice_get, slice_index_or}
 use Rattle.std.specs.List.{All}
 use Rattle.std.proofs.lemmas.List.{get_or-append-add}
@@ -17,6 +17,7 @@ use Rattle.reached.specs.Spelled.{with_first, spelled_out, flat_inputs, flat_ver
 use Rattle.rewrite.specs.PrivateFlat.{MergesDiffer, last_of}
 use Rattle.rewrite.specs.PrivateJoined.{AreJoinable, AreDistinct, ComesNew, AreJoined}
 use Rattle.rewrite.specs.Pruned.{Names, AreNames, IsRenamed}
+use Rattle.rewrite.proofs.PairFacts.{pairs_differ}
 use Rattle.rewrite.proofs.ReachFacts.{flat_reached}
 use Rattle.rewrite.proofs.MarkedFacts.{reached_marked}
 
@@ -105,7 +106,7 @@ module _ (vs : List Vertex) (are : AreVertices vs) where
   last_with (first ∷ rest) two = last_over (spelled_out vs first) rest (omega (arith, two)) ∙ sym (last_over (first ∷ []) rest (omega (arith, two)))
 
   -- a merge on its flat inputs has the last input that it had
-  pub last_flat : (k : ℕ) (v : Vertex) → slice_get vs k ≡ Some v → v.op ≡ MergeOp → last_of (flat_inputs vs v.op v.inputs) ≡ last_of v.inputs
+  last_flat : (k : ℕ) (v : Vertex) → slice_get vs k ≡ Some v → v.op ≡ MergeOp → last_of (flat_inputs vs v.op v.inputs) ≡ last_of v.inputs
   last_flat k v there merge =
       ap (λ (op : Op). last_of (flat_inputs vs op v.inputs)) merge ∙ last_with v.inputs (merge_has_two vs are v k there merge)
 
@@ -113,21 +114,29 @@ module _ (vs : List Vertex) (are : AreVertices vs) where
   pub flat_itself : (v : Vertex) → is_merge v.op ≡ false → flat_vertex vs v ≡ v
   flat_itself v other = ap (λ ins. vertex_of v.op ins) (flat_other vs v.op v.inputs other)
 
+  -- so merges that differ differ on flat inputs
+  pub merges_differ : (before : List Bool) → MergesDiffer vs before → (j k : ℕ) (v w : Vertex) → is_marked before j ≡ true → is_marked before k ≡ true
+      → slice_get vs j ≡ Some v → slice_get vs k ≡ Some w → v.op ≡ MergeOp → w.op ≡ MergeOp → flat_inputs vs v.op v.inputs ≡ flat_inputs vs w.op w.inputs → j ≡ k
+  merges_differ before differ j k v w at_j at_k there_j there_k v_merge w_merge same = elim differ [
+    | inl pairs ↦ pairs_differ vs are pairs j k v w there_j there_k v_merge w_merge same
+    | inr lasts ↦
+        lasts j k v w at_j at_k there_j there_k v_merge w_merge (sym (last_flat j v there_j v_merge) ∙ (ap last_of same ∙ last_flat k w there_k w_merge))
+  ]
+
   module _ (marks before : List Bool) (within : (k : ℕ) → is_marked marks k ≡ true → is_marked before k ≡ true) (differ : MergesDiffer vs before) where
     by_kind : (j k : ℕ) (v x y : Vertex) (b : Bool) → is_merge v.op ≡ b → is_marked marks j ≡ true → is_marked marks k ≡ true → slice_get vs j ≡ Some x
         → slice_get vs k ≡ Some y → v ≡ flat_vertex vs x → v ≡ flat_vertex vs y → j ≡ k
     by_kind j k v x y true merge at_j at_k there_j there_k from_x from_y =
         let x_op : x.op ≡ MergeOp = merge_is x.op (sym (ap (λ (z : Vertex). is_merge z.op) from_x) ∙ merge) in
         let y_op : y.op ≡ MergeOp = merge_is y.op (sym (ap (λ (z : Vertex). is_merge z.op) from_y) ∙ merge) in
-        let lasts : last_of x.inputs ≡ last_of y.inputs =
-        sym (last_flat j x there_j x_op) ∙ (ap (λ (z : Vertex). last_of z.inputs) (sym from_x ∙ from_y) ∙ last_flat k y there_k y_op) in
-        differ j k x y (within j at_j) (within k at_k) there_j there_k x_op y_op lasts
+        let inputs : flat_inputs vs x.op x.inputs ≡ flat_inputs vs y.op y.inputs = ap (λ (z : Vertex). z.inputs) (sym from_x ∙ from_y) in
+        merges_differ before differ j k x y (within j at_j) (within k at_k) there_j there_k x_op y_op inputs
     by_kind j k v x y false other at_j at_k there_j there_k from_x from_y =
         let x_is : v ≡ x = from_x ∙ flat_itself x (sym (ap (λ (z : Vertex). is_merge z.op) from_x) ∙ other) in
         let y_is : v ≡ y = from_y ∙ flat_itself y (sym (ap (λ (z : Vertex). is_merge z.op) from_y) ∙ other) in
         are.once j k v (there_j ∙ ap Some (sym x_is)) (there_k ∙ ap Some (sym y_is))
 
-    -- if no two merges have the same last input, no two vertices on flat inputs are equal
+    -- where merges differ, no two vertices on flat inputs are equal
     pub flat_distinct : AreDistinct (flat_vertices vs) marks
     flat_distinct j k v at_j at_k there_j there_k =
         let x = flat_back vs j v there_j in

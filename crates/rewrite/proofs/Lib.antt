@@ -10,6 +10,7 @@ pub mod MadeFacts
 pub mod MarkedFacts
 pub mod OnceFacts
 pub mod OrderFacts
+pub mod PairFacts
 pub mod PrunedFacts
 pub mod ReachFacts
 mod RenameFacts

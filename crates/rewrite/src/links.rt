@@ -1,9 +1,10 @@
 // Puts the links of a plan into one.
 ghost use Rattle.std.specs.Prelude.{◌≡◌, ◌<◌, ◌↔◌, true, length, IfOk, IsTrue};
+ghost use Rattle.std.specs.List.{list_all};
 ghost use Rattle.plans.specs.Plan.{problem_of, NeedsAll};
 ghost use Rattle.plans.specs.Value.{Out};
 ghost use Rattle.rewrite.specs.Flat.{IsFlattened, MergesAreFlat};
-ghost use Rattle.rewrite.specs.PrivateFlat.{link_below, MergesDiffer, MarksLast};
+ghost use Rattle.rewrite.specs.PrivateFlat.{link_below, is_pair, LastsDiffer, MergesDiffer, MarksLast};
 ghost use Rattle.rewrite.specs.PrivateSpelled.{IsFlatOf};
 ghost use Rattle.rewrite.specs.Pruned.{KeepsMeaning};
 
@@ -22,7 +23,8 @@ use std::mem;
 /// What the target doesn't reach goes, also a merge that was replaced wherever it stood. Vertices that become equal are one, with the lines
 /// of all of them, also those of a merge that went so. The target has the value that it had, and of the vertices that fail those are left, with their lines and causes, that
 /// the target reaches; the configuration and the sources stay. Every plan may be flattened. It takes as many steps as the two plans have
-/// vertices, inputs and lines, unless two merges have the same last input: then each merge before is spelled out too, and looked for. After `Memory` the plan is gone.
+/// vertices, inputs and lines, unless a merge has more than two inputs, and two merges have the same last one: then each merge before is spelled
+/// out too, and looked for. After `Memory` the plan is gone.
 pub fn flatten_links<C: Drop>(alloc: Global, plan: Plan<C>) -> Result<Plan<C>, Memory>
     ensures flattened { IfOk result (IsFlattened plan) }
     ensures flat { IfOk result (λ flat. MergesAreFlat flat.graph.vertices) }
@@ -62,11 +64,29 @@ fn flatten_graph(alloc: Global, graph: Graph, target: VertexId) -> Result<Joined
     Ok(Joined { graph, names })
 }
 
-/// Whether each of the merges that are marked has a last input of its own, so that no two of them are equal, also on flat inputs. It takes one pass
-/// and compares no lists. It is `false` also where merges differ, but not in their last input.
+/// Whether a look at inputs shows that no two of the merges that are marked are equal, also on flat inputs: all have two inputs, as those of links
+/// do, or each has a last one of its own. It takes two passes and compares no lists. It is `false` also where merges differ in another way.
 fn do_merges_differ(alloc: Global, vertices: &[Vertex], marks: &[bool]) -> Result<bool, Memory>
     requires { length marks.now ≡ length vertices.now }
     ensures { IfOk result (λ differ. differ ≡ true → MergesDiffer vertices.now marks.now) }
+{
+    if are_pairs(vertices) {
+        return Ok(true);
+    }
+    do_lasts_differ(alloc, vertices, marks)
+}
+
+/// Whether each merge has two inputs.
+fn are_pairs(vertices: &[Vertex]) -> bool
+    ensures { result ≡ list_all is_pair vertices.now }
+{
+    vertices.iter().all(|vertex| !is_merge(&vertex.op) || vertex.inputs.len() == 2)
+}
+
+/// Whether each of the merges that are marked has a last input of its own.
+fn do_lasts_differ(alloc: Global, vertices: &[Vertex], marks: &[bool]) -> Result<bool, Memory>
+    requires { length marks.now ≡ length vertices.now }
+    ensures { IfOk result (λ differ. differ ≡ true → LastsDiffer vertices.now marks.now) }
 {
     let mut lasts = no_marks(alloc, vertices.len())?;
     for (at, vertex) in vertices.iter().enumerate() {

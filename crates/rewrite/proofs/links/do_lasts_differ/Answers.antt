@@ -2,9 +2,9 @@ use Rattle.std.proofs.Common.{◌≡◌, ◌∙◌, Bool, List, false, refl, sym
 use Rattle.std.specs.Prelude.{slice_index_or}
 use Rattle.std.proofs.lemmas.Option.{slice_get_read}
 use Rattle.rewrite.proofs.DifferFacts.{IsNoted, noted_merge, noted_unmarked, noted_other, differ_next, all_differ}
-use Rattle.rewrite.proofs.links.do_merges_differ.Goals as goal
-use Rattle.rewrite.proofs.links.do_merges_differ.Goals.{then-marks-at+then-is_merge+else-not-mark_last, else-marks-at, else-marks-at-via-then-marks-at+else-is_merge}
-use Rattle.rewrite.proofs.links.do_merges_differ.Goals.{else-marks-at-via-else-marks-at}
+use Rattle.rewrite.proofs.links.do_lasts_differ.Goals as goal
+use Rattle.rewrite.proofs.links.do_lasts_differ.Goals.{then-marks-at+then-is_merge+else-not-mark_last, else-marks-at, else-marks-at-via-then-marks-at+else-is_merge}
+use Rattle.rewrite.proofs.links.do_lasts_differ.Goals.{else-marks-at-via-else-marks-at}
 
 pub loop-at-preserved : goal.loop-at-preserved
 loop-at-preserved c =
