@@ -7,3 +7,4 @@ mod Cutting
 mod Saying
 mod Bodies
 mod Standing
+mod Reaching

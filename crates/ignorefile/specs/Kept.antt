@@ -17,6 +17,10 @@ Kept lines path =
     ((n : ℕ) → TouchesAt lines path n → ⊥)
     ⊎ ((n : ℕ) × ((line : Line) × ((slice_get lines n ≡ Some line) × (Touches line path × ((line.exception ≡ true) × ((m : ℕ) → n < m → TouchesAt lines path m → ⊥))))))
 
+-- nothing is kept at a path nor below it
+abbrev pub KeepsNothing : List Line → List (List ℕ) → Type 0
+KeepsNothing lines path = (rest : List (List ℕ)) → Kept lines (path ++ rest) → ⊥
+
 -- which line decides of a path: the last one that touches it, or none where no line does
 abbrev pub IsDeciding : List Line → List (List ℕ) → Option ℕ → Type 0
 IsDeciding lines path None = (n : ℕ) → TouchesAt lines path n → ⊥

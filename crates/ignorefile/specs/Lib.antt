@@ -7,3 +7,4 @@ pub mod PrivateIndex
 pub mod PrivateLeft
 pub mod PrivateFile
 pub mod Walk
+pub mod PrivateWalk

@@ -2,6 +2,7 @@ ghost use Rattle.std.specs.Prelude.{◌≡◌, ◌↔◌, IsTrue, IfSome};
 ghost use Rattle.std.specs.List.{list_any};
 ghost use Rattle.ignorefile.specs.Line.{Relates, is_deep};
 ghost use Rattle.ignorefile.specs.PrivateLeft.{IsDeadIn};
+ghost use Rattle.ignorefile.specs.PrivateWalk.{may_except_below, may_reach};
 ghost use Rattle.ignorefile.specs.PrivateRanks.{EndsIn, LastBegins, LastEnds, LiesIn, HasCount, TakesOnly, TakesBeginning, TakesEnding};
 
 use globs::{Component, Fits, can_be_cut};
@@ -68,6 +69,21 @@ impl Segment {
     }
 }
 
+/// Whether segments may relate to paths that lie below this one: those that take its names leave some, or there is a `**` among them.
+fn may_reach(segments: &[Segment], names: &[Text]) -> bool
+    ensures { result ≡ may_reach segments.now names.now }
+{
+    match segments {
+        [] => false,
+        [segment, later @ ..] => match names {
+            [] => true,
+            [name, below @ ..] => {
+                segment.takes_any() || (segment.holds(name) && may_reach(later, below))
+            }
+        },
+    }
+}
+
 /// Whether a segment is `**`.
 fn has_deep(segments: &[Segment]) -> bool
     ensures { result ≡ list_any (λ segment. is_deep segment) segments.now }
@@ -101,6 +117,13 @@ impl Line {
             [] => false,
             [front @ .., last] => !last.takes_any() && !can_be_cut(front, folder),
         }
+    }
+
+    /// Whether the line is an exception that may relate to paths below this one.
+    pub(crate) fn may_except_below(&self, names: &[Text]) -> bool
+        ensures { result ≡ may_except_below names.now self.now }
+    {
+        self.exception && may_reach(self.segments.as_slice(), names)
     }
 
     /// The name that each path which the line relates to ends in, where its pattern ends in a plain name.

@@ -2,16 +2,18 @@
 //
 // What the lines decide of a folder is handed down to what lies in it, and of the lines that are tried one after another only those are tried there
 // which the folder's names leave. So a walk costs what `Ignore::kept` costs for all its paths, though it may end at each folder that is left out.
-ghost use Rattle.std.specs.Prelude.{◌≡◌, ◌↔◌, IsTrue, IfOk, []};
-ghost use Rattle.ignorefile.specs.Kept.{Kept};
+ghost use Rattle.std.specs.Prelude.{◌≡◌, ◌↔◌, IsTrue, IfOk, [], false};
+ghost use Rattle.std.specs.List.{list_any};
+ghost use Rattle.ignorefile.specs.Kept.{Kept, KeepsNothing};
 ghost use Rattle.ignorefile.specs.PrivateIndex.{IsIndex};
 ghost use Rattle.ignorefile.specs.PrivateRanks.{IsDecided};
+ghost use Rattle.ignorefile.specs.PrivateWalk.{may_except_below};
 
 use crate::ignore::{Ignore, count_shared, lets};
 use crate::index::{Index, Left};
 use crate::line::Line;
 use paths::Path;
-use plain::Memory;
+use plain::{Memory, Text};
 use std::alloc::Global;
 use std::marker::Model;
 
@@ -100,6 +102,17 @@ impl<'a> Decided<'a> {
         lets(self.lines, self.rank)
     }
 
+    /// Whether a line may keep something at this path or below it. No name below it is known, so what may be kept need not be; what isn't, is
+    /// left out. It takes no memory.
+    pub fn may_keep(&self) -> bool
+        ensures { result ≡ false → KeepsNothing self.now.lines self.now.path }
+    {
+        if self.is_kept() {
+            return true;
+        }
+        excepts_below(self.lines, self.path.components())
+    }
+
     /// The lines as they bear on what lies right in the folder at this path.
     pub fn folder(&self, alloc: Global) -> Result<FolderLines<'_, 'a>, Memory>
         ensures { IfOk result (λ lines. lines ≡ self.now.lines) }
@@ -145,4 +158,11 @@ impl<'b, 'a> FolderLines<'b, 'a> {
             self.index.rank(self.lines, names)
         }
     }
+}
+
+/// Whether a line is an exception that may relate to paths below this one.
+fn excepts_below(lines: &[Line], names: &[Text]) -> bool
+    ensures { result ≡ list_any (may_except_below names.now) lines.now }
+{
+    lines.iter().any(|line| line.may_except_below(names))
 }
