@@ -146,13 +146,18 @@ argument_name : (e : Escape) (name : List ℕ) (o : Option (List ℕ)) (a : Argu
 argument_name e name None a h = ap (λ (b : Argument). b.name) (some_is (record { name = name; default = None }) a h)
 argument_name e name (Some text) a h = mapped_name name (word Quoted e text) a h
 
+pub arguments_named : (e : Escape) (cuts : List (List ℕ × Option (List ℕ))) (arguments : List Argument) → arg.has_bad_name cuts ≡ false → arguments_of e cuts ≡ Some arguments
+    → list_all is_name (argument_names arguments) ≡ true
+arguments_named e cuts arguments good h =
+    all_keep (argument_of e) (λ cut. is_name cut.0) (λ (a : Argument). a.name) is_name (λ cut a k. ap is_name (argument_name e cut.0 cut.1 a k)) cuts arguments h good
+
 arguments_whole : (e : Escape) (text : List ℕ) (arguments : List Argument) → (length (words e text) == 0) ≡ false → arg.has_bad_name (argument_cuts e text) ≡ false
     → arguments_of e (argument_cuts e text) ≡ Some arguments → (0 < length arguments) × (list_all is_name (argument_names arguments) ≡ true)
 arguments_whole e text arguments some good h = (
   read_filled (argument_of e) (argument_cuts e text) arguments h
       (let same : length (argument_cuts e text) ≡ length (words e text) = length-map (words e text) argument_cut in
       let k : 0 < length (words e text) = filled (length (words e text)) some in omega (arith, same, k)),
-  all_keep (argument_of e) (λ cut. is_name cut.0) (λ (a : Argument). a.name) is_name (λ cut a k. ap is_name (argument_name e cut.0 cut.1 a k)) (argument_cuts e text) arguments h good,
+  arguments_named e (argument_cuts e text) arguments good h,
 )
 
 -- ENV and LABEL
@@ -175,12 +180,14 @@ assigned_name : (name : List ℕ) (o : Option Parts) (a : Assignment) → option
 assigned_name name None a h = absurd (none_is a h)
 assigned_name name (Some value) a h = ap (λ (b : Assignment). b.name) (some_is (record { name = name; value = value }) a h)
 
+pub assignments_named : (e : Escape) (pairs : List (List ℕ × List ℕ)) (assignments : List Assignment) → env.has_bad_name (Some pairs) ≡ false → assignments_of e pairs ≡ Some assignments
+    → list_all is_name (assignment_names assignments) ≡ true
+assignments_named e pairs assignments good h =
+    all_keep (assignment_of e) (λ p. is_name p.0) (λ (a : Assignment). a.name) is_name (λ p a k. ap is_name (assigned_name p.0 (word Quoted e p.1) a k)) pairs assignments h good
+
 assignments_whole : (e : Escape) (pairs : List (List ℕ × List ℕ)) (assignments : List Assignment) → 0 < length pairs → list_any (λ pair. not (is_name pair.0)) pairs ≡ false
     → assignments_of e pairs ≡ Some assignments → (0 < length assignments) × (list_all is_name (assignment_names assignments) ≡ true)
-assignments_whole e pairs assignments some good h = (
-  read_filled (assignment_of e) pairs assignments h some,
-  all_keep (assignment_of e) (λ p. is_name p.0) (λ (a : Assignment). a.name) is_name (λ p a k. ap is_name (assigned_name p.0 (word Quoted e p.1) a k)) pairs assignments h good,
-)
+assignments_whole e pairs assignments some good h = (read_filled (assignment_of e) pairs assignments h some, assignments_named e pairs assignments good h)
 
 good_pairs : (o : Option (List (List ℕ × List ℕ))) (pairs : List (List ℕ × List ℕ)) → o ≡ Some pairs → env.has_bad_name o ≡ false → list_any (λ pair. not (is_name pair.0)) pairs ≡ false
 good_pairs o pairs h k = sym (ap env.has_bad_name h) ∙ k
@@ -272,7 +279,7 @@ copy_by (Some found) (Some said) i h e = subst IsInstruction (some_is (instructi
 
 -- each of them
 
-whole : (k : Option Keyword) (line : Line) (rest : List ℕ) (i : InstructionKind) → least (named_due k line rest) ≡ None → named_read k line rest ≡ Some i → IsInstruction i
+pub whole : (k : Option Keyword) (line : Line) (rest : List ℕ) (i : InstructionKind) → least (named_due k line rest) ≡ None → named_read k line rest ≡ Some i → IsInstruction i
 whole None line rest i h e = absurd (none_is i e)
 whole (Some From) line rest i h e = from_whole line.escape (stage_in line.escape rest) i (none_due (named_due (Some From) line rest) h R10) e
 whole (Some Arg) line rest i h e =

@@ -37,6 +37,7 @@ impl Model for Draft {
 
 impl Draft {
     /// The argument, if its name is one.
+    #[tactic(auto, using(crate::proofs::NameLemmas::name_fits))]
     fn named(self) -> Argument
         requires { is_name self.name ≡ true }
         ensures { result ≡ self }
@@ -144,8 +145,9 @@ pub(crate) fn read_arg(
     }
     closed(escape, text)?;
     let cuts = argument_cuts(alloc, &words)?;
-    let drafts = read_arguments(alloc, escape, &cuts)?;
-    if has_bad_name(&cuts) {
+    let cuts = cuts.as_slice();
+    let drafts = read_arguments(alloc, escape, cuts)?;
+    if has_bad_name(cuts) {
         return Err(Fault::Because(Code::R10));
     }
     let arguments = named(alloc, drafts)?;

@@ -8,7 +8,7 @@ use std::alloc::Global;
 impl Copied for Argument {
     fn copied(&self, alloc: Global) -> Result<Argument, Memory> {
         let name = self.name.copy(alloc)?;
-        let default = self.default.copied(alloc)?;
+        let default = Copied::copied(&self.default, alloc)?;
         Ok(Argument { name, default })
     }
 }

@@ -37,6 +37,7 @@ impl Model for Draft {
 
 impl Draft {
     /// The assignment, if its name is one.
+    #[tactic(auto, using(crate::proofs::NameLemmas::name_fits))]
     fn named(self) -> Assignment
         requires { is_name self.name ≡ true }
         ensures { result ≡ self }
@@ -173,8 +174,9 @@ pub(crate) fn read_env(
     if has_pairs(text) {
         closed(escape, text)?;
     }
-    let drafts = read_assignments(alloc, escape, &pairs)?;
-    if has_bad_name(&pairs) {
+    let pairs = pairs.as_slice();
+    let drafts = read_assignments(alloc, escape, pairs)?;
+    if has_bad_name(pairs) {
         return Err(Fault::Because(Code::R10));
     }
     let assignments = named(alloc, drafts)?;

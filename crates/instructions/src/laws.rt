@@ -5,7 +5,6 @@ ghost use Rattle.plain.specs.declared.refusal.Code.{Code};
 ghost use Rattle.lines.specs.declared.line.Line.{Line};
 ghost use Rattle.expand.specs.declared.fault.Unexpanded.{Unexpanded};
 ghost use Rattle.expand.specs.declared.reason.Reason.{Reason};
-ghost use Rattle.instructions.specs.Instruction.{IsInstruction};
 ghost use Rattle.instructions.specs.Least.{least, IsLeast};
 ghost use Rattle.instructions.specs.Reason.{reason, IsReason, IsLeastReason};
 ghost use Rattle.instructions.specs.Parsing.{is_due, Spells};
@@ -32,10 +31,4 @@ pub fn the_least_code_is_told()
 pub fn the_least_reason_is_reported()
     ensures least { (due : Code → Bool) (fault : Option Unexpanded) (found : Reason) → reason due fault ≡ Some found → IsLeastReason due fault found }
     ensures none { (due : Code → Bool) (fault : Option Unexpanded) → reason due fault ≡ None → (other : Reason) → IsReason due fault other → ⊥ }
-{}
-
-/// What each instruction keeps that a line spells: names are names, there are as many arguments as there have to be, and no more
-/// mounts than are allowed. A `--from` names something, and no heredoc stands beside it.
-pub fn spelled_instructions_are_whole()
-    ensures { (line : Line) (i : Instruction) → Spells line i → IsInstruction i.kind }
 {}

@@ -6,8 +6,8 @@
 //
 // The central definition is `Spells` in specs/Parsing.antt: by cases of the line's name, what the rest of the line is read
 // as, and which codes are due for it. A line for which no code is due spells just one instruction, and any other is refused
-// with the least code that is due, so it doesn't matter in which order the tests are made. What each instruction keeps that
-// a line spells is `IsInstruction` in specs/Instruction.antt (`laws`).
+// with the least code that is due, so it doesn't matter in which order the tests are made. Only `parse` makes an
+// `Instruction`, and its type keeps what each that a line spells keeps: `IsInstruction` in specs/Instruction.antt.
 //
 // A file for each instruction: src/env.rt has what the code reads of ENV, and specs/Env.antt what that is.
 // specs/Reason.antt says why a line is refused whose texts are expanded, for the crates above, which expand them.
