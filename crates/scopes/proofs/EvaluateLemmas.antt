@@ -1,14 +1,21 @@
 -- One thing more of a line.
-use Rattle.std.proofs.Common.{◌≡◌, ℕ, ◌+◌, ◌<◌, List, [], ◌∷◌, ◌++◌, map, Option, None, length, get_or, drop, ap, sym, subst, ◌∙◌, append_assoc, append-nil}
-use Rattle.std.specs.Prelude.{Result, Ok, Err}
+use Rattle.std.proofs.Common.{◌≡◌, ℕ, ◌+◌, ◌<◌, Bool, true, false, List, [], ◌∷◌, ◌++◌, map, Option, None, length, get_or, drop, refl, ap, sym, subst, ◌∙◌, append_assoc, append-nil}
+use Rattle.std.specs.Prelude.{Result, Ok, Err, ◌&&◌}
+use Rattle.std.specs.List.{list_all}
+use Rattle.std.proofs.lemmas.Bool.{true≢false}
 use Rattle.std.proofs.lemmas.List.{at_drop_more}
 use Rattle.plain.specs.declared.fault.Fault.{Fault}
 use Rattle.plain.specs.declared.fault.Fault.TheVariants.{Because, Memory}
 use Rattle.expand.specs.Expanding.{worse, worst}
 use Rattle.expand.specs.declared.fault.Unexpanded.{Unexpanded}
 use Rattle.expand.proofs.WorseLaws.{worse-assoc, worse-none, worse_none-left}
-use Rattle.scopes.specs.Evaluate.{Says}
-use Rattle.scopes.specs.PrivateEvaluate.{IsLonger}
+use Rattle.plain.specs.VariableName.{is_variable_name}
+use Rattle.instructions.specs.Instruction.{argument_names}
+use Rattle.instructions.specs.declared.instruction.Argument.{Argument}
+use Rattle.scopes.specs.Evaluate.{Says, Values}
+use Rattle.scopes.specs.PrivateMaps.{arg_row_of}
+use Rattle.scopes.specs.Scope.{HaveNames, names_in}
+use Rattle.scopes.specs.PrivateEvaluate.{IsLonger, argument_row}
 
 -- a loop along a line
 
@@ -46,3 +53,23 @@ pub so_far-ended : {X Y : Type 0} (say : X → Y) (fault : X → Option Unexpand
 so_far-ended {X} {Y} say fault all rest line so_far r e b s =
     let last : IsSoFar say fault all [] line so_far = subst (λ (xs : List X). IsSoFar say fault all xs line so_far) e b in
     says-by line (map say all) so_far (worst (map fault all)) r (sym (worse-none so_far) ∙ last.faults) (λ n. sym (append-nil line) ∙ last.said n) s
+
+-- the names of an ARG's rows are those of its arguments
+
+arguments_named : (before args outer : Values) (arguments : List Argument) → list_all is_variable_name (argument_names arguments) ≡ true → HaveNames (map arg_row_of (map (argument_row before args outer) arguments))
+arguments_named before args outer [] h = refl
+arguments_named before args outer (a ∷ arguments) h = by (is_variable_name a.name) h (arguments_named before args outer arguments)
+  where
+    by : (b : Bool) → (b && list_all is_variable_name (argument_names arguments)) ≡ true
+        → (list_all is_variable_name (argument_names arguments) ≡ true → HaveNames (map arg_row_of (map (argument_row before args outer) arguments)))
+        → (b && list_all is_variable_name (names_in (map arg_row_of (map (argument_row before args outer) arguments)))) ≡ true
+    by true i rest = rest i
+    by false i rest = absurd (true≢false (sym i))
+
+pub rows_named : (before args outer : Values) (fault : Argument → Option Unexpanded) (arguments rest : List Argument) (line : List (List ℕ × Option (List ℕ))) (so_far : Option Unexpanded) → rest ≡ []
+    → list_all is_variable_name (argument_names rest) ≡ list_all is_variable_name (argument_names arguments)
+    → IsSoFar (argument_row before args outer) fault arguments rest line so_far → so_far ≡ None → HaveNames (map arg_row_of line)
+rows_named before args outer fault arguments rest line so_far over names b none =
+    let last : IsSoFar (argument_row before args outer) fault arguments [] line so_far = subst (λ (xs : List Argument). IsSoFar (argument_row before args outer) fault arguments xs line so_far) over b in
+    let good : list_all is_variable_name (argument_names arguments) ≡ true = sym names ∙ ap (λ (xs : List Argument). list_all is_variable_name (argument_names xs)) over in
+    subst (λ (rows : List (List ℕ × Option (List ℕ))). HaveNames (map arg_row_of rows)) (sym (sym (append-nil line) ∙ last.said none)) (arguments_named before args outer arguments good)

@@ -1,5 +1,5 @@
 -- What the two maps of a scope hold, as what is said of names.
-use Rattle.std.proofs.Common.{◌≡◌, ℕ, true, false, List, [], ◌∷◌, ◌++◌, map, Option, Some, None, Result, Ok, Err, OnOk, OnErr, refl, ap, ap₂, sym, ◌∙◌, subst, append-nil, is_some, ◌||◌, Bool}
+use Rattle.std.proofs.Common.{◌≡◌, ℕ, List, [], ◌∷◌, ◌++◌, map, Option, Some, None, Result, Ok, Err, OnOk, OnErr, refl, ap, ap₂, sym, ◌∙◌, subst, append-nil, is_some}
 use Rattle.std.specs.Prelude.{if◌then◌else◌}
 use Rattle.std.specs.List.{filter_map}
 use Rattle.std.specs.Map.{lookup}
@@ -9,7 +9,7 @@ use Rattle.plain.specs.declared.memory.Memory.{Memory}
 use Rattle.named.specs.Rows.{put_row, put_rows, give_row, give_rows, has_row}
 use Rattle.scopes.specs.Scope.{or_else, value_in, run_env, kept}
 use Rattle.scopes.proofs.Said.{Said, env_said, arg_said, last, settled, put, found, flat}
-use Rattle.scopes.proofs.SaidLemmas.{either, settled-push, found-last, put-none_found}
+use Rattle.scopes.proofs.SaidLemmas.{either, settled-push, found-last}
 use Rattle.scopes.proofs.LineLemmas.{still_kept, kept-step}
 use Rattle.scopes.proofs.ScopeLemmas.{env_said-append, arg_said-append, env_said-kept, arg_said-kept, last_env-is, last_arg-is, env_of, arg_of, kept-is, row_of, other_row_of, filter_map-same, run_env-is, env_said-arg_of, arg_said-arg_of}
 use Rattle.scopes.specs.PrivateMaps.{env_row_of, arg_row_of, declared, variable_rows, argument_row, argument_rows}

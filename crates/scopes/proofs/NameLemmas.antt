@@ -1,22 +1,21 @@
 -- The names of what is kept and of RUN's environment: those of the declarations, and in the environment each once.
-use Rattle.std.proofs.Common.{◌≡◌, ℕ, Bool, true, false, List, [], ◌∷◌, ◌++◌, length, map, Option, Some, None, refl, ap, ap₂, sym, ◌∙◌, is_some, arith}
-use Rattle.std.specs.Prelude.{◌==◌, ◌&&◌, ◌||◌, not, if◌then◌else◌, Result, Ok, Err, IfOk}
+use Rattle.std.proofs.Common.{◌≡◌, ℕ, Bool, true, false, List, [], ◌∷◌, ◌++◌, map, Option, Some, None, Result, Ok, Err, OnOk, OnErr, refl, ap, ap₂, sym, subst, ◌∙◌, is_some}
+use Rattle.std.specs.Prelude.{◌&&◌, ◌||◌, not}
 use Rattle.std.specs.List.{filter_map, list_all, list_any}
 use Rattle.std.specs.Str.{bytes_eq}
 use Rattle.std.specs.Cmp.Lexicographic.{nat_list_eq_equiv}
 use Rattle.std.proofs.lemmas.Bool.{true≢false}
-use Rattle.std.proofs.lemmas.Bool.Decides.{nat_tests}
 use Rattle.std.proofs.lemmas.List.{map-append}
-use Rattle.ascii.specs.Names.{begins_name, is_in_name, are_in_name, is_name}
 use Rattle.instructions.specs.declared.instruction.Argument.{Argument}
 use Rattle.instructions.specs.declared.instruction.Assignment.{Assignment}
-use Rattle.plain.specs.declared.fault.Fault.{Fault}
-use Rattle.expand.specs.declared.fault.Unexpanded.{Unexpanded}
-use Rattle.instructions.specs.Instruction.{assignment_names}
-use Rattle.scopes.specs.Evaluate.{Values, env_variables, env_line, arg_line, Says}
+use Rattle.plain.specs.declared.memory.Memory.{Memory}
+use Rattle.scopes.specs.Evaluate.{Values, env_line, arg_line}
 use Rattle.plain.specs.Variable.{names_of}
-use Rattle.plain.specs.VariableName.{equals_sign, is_variable_name}
-use Rattle.scopes.specs.Scope.{or_else, where_same, run_env, kept, name_of, names_in, names_differ}
+use Rattle.plain.specs.VariableName.{is_variable_name}
+use Rattle.named.specs.Rows.{put_rows, give_rows}
+use Rattle.scopes.specs.PrivateMaps.{env_row_of, arg_row_of, declared}
+use Rattle.scopes.specs.Scope.{or_else, where_same, run_env, kept, name_of, names_in, names_differ, HaveNames}
+use Rattle.scopes.proofs.MapLemmas.{declared-set, declared-given}
 use Rattle.scopes.proofs.Said.{Said, env_said, arg_said, last, apart, settled}
 use Rattle.scopes.proofs.SaidLemmas.{either, apart-twice, apart-turned, last-settled}
 use Rattle.scopes.proofs.ScopeLemmas.{env_of, arg_of, kept-is, row_of, other_row_of, run_env-is}
@@ -239,38 +238,6 @@ run_env-differs ds =
     (other_rows-differ (env_said ds) (settled (arg_said ds)) (settled-distinct (arg_said ds)))
     (λ n h. last-no_other_row n (env_said ds) (settled (arg_said ds)) (ap is_some (sym (last-settled n (env_said ds))) ∙ row-last n (settled (env_said ds)) h))
 
--- a name holds no `=`
-
-is_not : (c d : ℕ) (b : Bool) → (c == d) ≡ b → (c ≡ d → ⊥) → b ≡ false
-is_not c d true e h = absurd (h (grind (arith, nat_tests)))
-is_not c d false e h = refl
-
-in_name-no_equals : (c : ℕ) → is_in_name c ≡ true → (c == equals_sign) ≡ false
-in_name-no_equals c h = is_not c equals_sign (c == equals_sign) refl (λ e. true≢false (sym h ∙ ap is_in_name e))
-
-begins_name-in_name : (c : ℕ) → begins_name c ≡ true → is_in_name c ≡ true
-begins_name-in_name c h = rw h refl
-
-are_in_name-no_equals : (cs : List ℕ) → are_in_name cs ≡ true → list_any (λ byte. byte == equals_sign) cs ≡ false
-are_in_name-no_equals [] h = refl
-are_in_name-no_equals (c ∷ cs) h = by (is_in_name c) refl h (are_in_name-no_equals cs)
-  where
-    by : (b : Bool) → is_in_name c ≡ b → (if b then are_in_name cs else false) ≡ true → (are_in_name cs ≡ true → list_any (λ byte. byte == equals_sign) cs ≡ false)
-        → list_any (λ byte. byte == equals_sign) (c ∷ cs) ≡ false
-    by true e i rest = rw (in_name-no_equals c e) (rest i)
-    by false e i rest = absurd (true≢false (sym i))
-
-not_empty : (c : ℕ) (cs : List ℕ) → (length (c ∷ cs) == 0) ≡ false
-not_empty c cs = is_not (length (c ∷ cs)) 0 (length (c ∷ cs) == 0) refl (λ e. absurd (omega (arith, e)))
-
-pub name-fits : (n : List ℕ) → is_name n ≡ true → is_variable_name n ≡ true
-name-fits [] h = absurd (true≢false (sym h))
-name-fits (c ∷ cs) h = by (begins_name c) refl h
-  where
-    by : (b : Bool) → begins_name c ≡ b → (if b then are_in_name cs else false) ≡ true → is_variable_name (c ∷ cs) ≡ true
-    by true e i = rw (not_empty c cs, in_name-no_equals c (begins_name-in_name c e), are_in_name-no_equals cs i) refl
-    by false e i = absurd (true≢false (sym i))
-
 -- what a line says has the names that stand in it
 
 pub env_line-names : (before : Values) (assignments : List Assignment) → names_in (env_line before assignments) ≡ map (λ a. a.name) assignments
@@ -281,15 +248,33 @@ pub arg_line-names : (before args outer : Values) (arguments : List Argument) �
 arg_line-names before args outer [] = refl
 arg_line-names before args outer (a ∷ rest) = ap (λ (ns : List (List ℕ)). a.name ∷ ns) (arg_line-names before args outer rest)
 
--- if those of an ENV are names, an environment may have them
+-- a scope's names are names of variables, and stay so
 
-pub variables-fit : (before : Values) (assignments : List Assignment) → list_all is_name (assignment_names assignments) ≡ true → list_all is_variable_name (names_of (env_variables before assignments)) ≡ true
-variables-fit before [] h = refl
-variables-fit before (a ∷ rest) h =
-    let s = and-split (is_name a.name) (list_all is_name (assignment_names rest)) h in
-    rw (name-fits a.name s.0) (variables-fit before rest s.1)
+pub both_named : (ds es : List Declaration) → HaveNames ds → HaveNames es → HaveNames (ds ++ es)
+both_named ds es h k = names_in-append is_variable_name ds es ∙ ap₂ (λ (a b : Bool). a && b) h k
 
-pub names-fit : (before : Values) (assignments : List Assignment) (fault : Option Unexpanded) (r : Result (List Variable) (Fault Unexpanded)) → Says (env_variables before assignments) fault r
-    → list_all is_name (assignment_names assignments) ≡ true → IfOk r (λ variables. list_all is_variable_name (names_of variables) ≡ true)
-names-fit before assignments fault (Ok variables) s h = ap (λ (found : List Variable). list_all is_variable_name (names_of found)) s.0 ∙ variables-fit before assignments h
-names-fit before assignments fault (Err why) s h = tt
+kept_named : (ds es new : List Declaration) → HaveNames ds → HaveNames es → new ≡ kept (ds ++ es) → HaveNames new
+kept_named ds es new h k is = subst (λ (all : List Declaration). HaveNames all) (sym is) (kept-fits is_variable_name (ds ++ es) (both_named ds es h k))
+
+pub set-named : (result : Result (Unit {0}) Memory) (rows more all : List (List ℕ × List ℕ)) (us : List (List ℕ × Option (List ℕ))) → kept (declared rows us) ≡ declared rows us
+    → HaveNames (declared rows us) → HaveNames (map env_row_of more) → OnOk result (all ≡ put_rows rows more) → OnErr result (all ≡ rows) → HaveNames (declared all us)
+set-named (Ok done) rows more all us kept_all h k ok err =
+    kept_named (declared rows us) (map env_row_of more) (declared all us) h k (ap (λ (es : List (List ℕ × List ℕ)). declared es us) ok ∙ declared-set rows more us kept_all)
+set-named (Err memory) rows more all us kept_all h k ok err = subst (λ (es : List (List ℕ × List ℕ)). HaveNames (declared es us)) (sym err) h
+
+pub given-named : (result : Result (Unit {0}) Memory) (rows : List (List ℕ × List ℕ)) (us more all : List (List ℕ × Option (List ℕ))) → kept (declared rows us) ≡ declared rows us
+    → HaveNames (declared rows us) → HaveNames (map arg_row_of more) → OnOk result (all ≡ give_rows us more) → OnErr result (all ≡ us) → HaveNames (declared rows all)
+given-named (Ok done) rows us more all kept_all h k ok err =
+    kept_named (declared rows us) (map arg_row_of more) (declared rows all) h k (ap (λ (es : List (List ℕ × Option (List ℕ))). declared rows es) ok ∙ declared-given rows us more kept_all)
+given-named (Err memory) rows us more all kept_all h k ok err = subst (λ (es : List (List ℕ × Option (List ℕ))). HaveNames (declared rows es)) (sym err) h
+
+-- the names of the two maps of a scope are those of its declarations
+
+split_named : (ds es : List Declaration) → HaveNames (ds ++ es) → HaveNames ds × HaveNames es
+split_named ds es h = and-split (list_all is_variable_name (names_in ds)) (list_all is_variable_name (names_in es)) (sym (names_in-append is_variable_name ds es) ∙ h)
+
+pub envs_named : (rows : List (List ℕ × List ℕ)) (us : List (List ℕ × Option (List ℕ))) → HaveNames (declared rows us) → HaveNames (map env_row_of rows)
+envs_named rows us h = (split_named (map env_row_of rows) (map arg_row_of us) h).0
+
+pub args_named : (rows : List (List ℕ × List ℕ)) (us : List (List ℕ × Option (List ℕ))) → HaveNames (declared rows us) → HaveNames (map arg_row_of us)
+args_named rows us h = (split_named (map env_row_of rows) (map arg_row_of us) h).1
