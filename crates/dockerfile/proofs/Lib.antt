@@ -1,2 +1,3 @@
 mod DockerfileFacts
 mod FaultsFacts
+mod OrderFacts
