@@ -1,18 +1,14 @@
 -- The lines of an instruction, by the lines of its file as they stand (Dockerfile reference, `escape`).
-use Rattle.std.specs.Prelude.{◌-◌, ◌||◌, ◌&&◌, ℕ, Bool, true, false, List, [], ◌∷◌, Option, Some, None, bytes_eq, codes, drop, is_some, length, nat_eq, unwrap_or, if◌then◌else◌}
+use Rattle.std.specs.Prelude.{◌-◌, ◌||◌, ◌&&◌, ℕ, Bool, true, false, List, [], ◌∷◌, Option, Some, None, bytes_eq, codes, drop, length, nat_eq, if◌then◌else◌}
 use Rattle.std.specs.List.{flat_map, starts_with}
 use Rattle.std.specs.Option.{option_and_then}
 use Rattle.std.specs.Str.{str_eq_ignore_ascii_case}
 use Rattle.ascii.specs.Blanks.{trimmed}
-use Rattle.lines.specs.Blanks.{continued_part, is_skipped}
 use Rattle.lines.specs.Escape.{byte_of}
+use Rattle.lines.specs.File.{goes_on, part_of}
 use Rattle.lines.specs.declared.escape.Escape.{Escape}
 use Rattle.lines.specs.declared.escape.Escape.TheVariants.{Backslash, Backtick}
 use Rattle.words.specs.Pairs.{pair}
-
--- a logical line goes on after this line of it: it is blank or a comment, or ends in the escape character, which isn't escaped itself
-unfoldable pub goes_on : Escape → List ℕ → Bool
-goes_on escape line = is_skipped line || is_some (continued_part (byte_of escape) line)
 
 -- a key is that of a directive (Dockerfile reference, parser directives)
 abbrev pub is_directive_key : List ℕ → Bool
@@ -46,7 +42,7 @@ escape_in (line ∷ lines) = escape_by (directive line) (escape_in lines)
 -- the lines of the logical line that begins here
 abbrev pub own_lines : Escape → List (List ℕ) → List (List ℕ)
 own_lines escape [] = []
-own_lines escape (line ∷ lines) = line ∷ (if goes_on escape line then own_lines escape lines else [])
+own_lines escape (line ∷ lines) = line ∷ (if goes_on (byte_of escape) line then own_lines escape lines else [])
 
 -- the lines of the instruction that begins on the line of this number
 abbrev pub own_of : List (List ℕ) → ℕ → List (List ℕ)
@@ -56,10 +52,6 @@ own_of lines number = own_lines (escape_in lines) (drop (number - 1) lines)
 abbrev pub lines_below : List (List ℕ) → List (List ℕ) → ℕ → List (List ℕ)
 lines_below lines own number = drop (length own) (drop (number - 1) lines)
 
--- what a line adds to the text of its instruction: nothing if it is blank or a comment, and what stands before the escape character if it goes on
-abbrev pub part_of : Escape → List ℕ → List ℕ
-part_of escape line = if is_skipped line then [] else unwrap_or (continued_part (byte_of escape) line) line
-
 -- the text of the instruction of these lines
 abbrev pub joined : Escape → List (List ℕ) → List ℕ
-joined escape own = flat_map (part_of escape) own
+joined escape own = flat_map (part_of (byte_of escape)) own

@@ -1,56 +1,13 @@
 // The lines of an instruction, and its text, by the lines of its file as they stand.
 ghost use Rattle.std.specs.Prelude.{◌≡◌, ◌-◌, Some, None, drop, length, map, option_map, IfOk, MatchOption};
 ghost use Rattle.std.specs.String.{string_bytes};
-ghost use Rattle.lines.specs.Blanks.{continued_part, ends_with, is_skipped};
-ghost use Rattle.lines.specs.Escape.{byte_of};
-ghost use Rattle.meant.specs.Own.{goes_on, says_backtick, is_directive_key, after_sharp, directive_cut, directive, escape_in, own_lines, own_of, lines_below, part_of, joined};
+ghost use Rattle.meant.specs.Own.{says_backtick, is_directive_key, after_sharp, directive_cut, directive, escape_in, own_lines, own_of, lines_below, joined};
 
-use ascii::{after_blanks, before_blanks, trimmed};
-use lines::Escape;
+use ascii::trimmed;
+use lines::{Escape, goes_on, part_of};
 use plain::Memory;
 use std::alloc::Global;
 use words::pair;
-
-/// Whether the last byte of a text is this one.
-fn ends_with(text: &[u8], byte: u8) -> bool
-    ensures { result ≡ ends_with byte text.now }
-{
-    if text.is_empty() {
-        return false;
-    }
-    text[text.len() - 1] == byte
-}
-
-/// What a line adds to its instruction's text if it goes on, and nothing if it doesn't.
-fn continued_part(escape: Escape, line: &str) -> Option<&str>
-    ensures { option_map (λ part. part.now) result ≡ continued_part (byte_of escape) line.now }
-{
-    let kept = before_blanks(line);
-    if !ends_with(kept.as_bytes(), escape.byte()) {
-        return None;
-    }
-    let part = &kept[..kept.len() - 1];
-    if ends_with(part.as_bytes(), escape.byte()) {
-        return None;
-    }
-    Some(part)
-}
-
-/// Whether a line is blank or a comment.
-fn is_skipped(line: &str) -> bool
-    ensures { result ≡ is_skipped line.now }
-{
-    let begin = after_blanks(line).as_bytes();
-    begin.is_empty() || begin[0] == b'#'
-}
-
-/// Whether a logical line goes on after this line of it.
-#[tactic(auto, unfolding(crate::specs::Own::goes_on))]
-fn goes_on(escape: Escape, line: &str) -> bool
-    ensures { result ≡ goes_on escape line.now }
-{
-    is_skipped(line) || continued_part(escape, line).is_some()
-}
 
 /// Whether a key is that of a directive.
 fn is_directive_key(key: &str) -> bool
@@ -159,19 +116,6 @@ pub fn own_of<'a>(alloc: Global, lines: &[&'a str], number: u32) -> Result<Vec<&
     ensures { IfOk result (λ own. map (λ line. line.now) own.items ≡ own_of (map (λ line. line.now) lines.now) number) }
 {
     own_lines(alloc, escape_in(lines), lines_from(lines, number))
-}
-
-/// What a line adds to the text of its instruction.
-fn part_of(escape: Escape, line: &str) -> &str
-    ensures { result.now ≡ part_of escape line.now }
-{
-    if is_skipped(line) {
-        return "";
-    }
-    match continued_part(escape, line) {
-        Some(part) => part,
-        None => line,
-    }
 }
 
 /// The text of the instruction of these lines.
