@@ -5,8 +5,10 @@ use Rattle.std.specs.List.{list_any, list_all, before_first, after_first, positi
 use Rattle.std.specs.Cmp.Lexicographic.{nat_list_eq_equiv}
 use Rattle.std.proofs.lemmas.Bool.{and_parts, or_parts}
 use Rattle.options.specs.Lists.{all_some}
+use Rattle.plain.specs.Variable.{names_of as variable_names}
+use Rattle.plain.specs.VariableName.{is_variable_name}
 use Rattle.plain.specs.declared.variable.Variable.{Variable}
-use Rattle.scopes.specs.Scope.{is_environment_name, names_differ, names_of as variable_names}
+use Rattle.scopes.specs.Scope.{names_differ}
 use Rattle.imageconfig.specs.Environment.{IsEnvironment, row_of, variables_of}
 use Rattle.imageconfig.specs.Reading.{cut_row, if_they_differ}
 use Rattle.imageconfig.specs.Rows.{Row, names_of, put_row, put_rows, add_name}
@@ -63,17 +65,17 @@ all-add test ns n h i = by (list_any (bytes_eq n) ns)
     by false = all-snoc test ns n h i
 
 -- an environment is one after a row was put
-environment-put : (rows : List Row) (name value : List ℕ) → IsEnvironment rows → is_environment_name name ≡ true → IsEnvironment (put_row rows name value)
+environment-put : (rows : List Row) (name value : List ℕ) → IsEnvironment rows → is_variable_name name ≡ true → IsEnvironment (put_row rows name value)
 environment-put rows name value is fits = record {
-  fit = ap (list_all is_environment_name) (names-put rows name value) ∙ all-add is_environment_name (names_of rows) name is.fit fits;
+  fit = ap (list_all is_variable_name) (names-put rows name value) ∙ all-add is_variable_name (names_of rows) name is.fit fits;
   differ = ap names_differ (names-put rows name value) ∙ differ-add (names_of rows) name is.differ;
 }
 
 -- and after rows were put
-pub environment-rows : (rows more : List Row) → IsEnvironment rows → list_all is_environment_name (names_of more) ≡ true → IsEnvironment (put_rows rows more)
+pub environment-rows : (rows more : List Row) → IsEnvironment rows → list_all is_variable_name (names_of more) ≡ true → IsEnvironment (put_rows rows more)
 environment-rows rows [] is fits = is
 environment-rows rows (row ∷ more) is fits =
-    let parts = and_parts (is_environment_name row.0) (list_all is_environment_name (names_of more)) fits in
+    let parts = and_parts (is_variable_name row.0) (list_all is_variable_name (names_of more)) fits in
     environment-rows (put_row rows row.0 row.1) more (environment-put rows row.0 row.1 is parts.0) parts.1
 
 pub environment-none : IsEnvironment []
@@ -137,7 +139,7 @@ pub taken-all : (rows : List Row) → add_rows [] rows ≡ if_they_differ rows
 taken-all rows = taken [] rows refl
 
 -- rows that are taken are an environment, where their names are such
-pub taken-environment : (rows all : List Row) → list_all is_environment_name (names_of rows) ≡ true → if_they_differ rows ≡ Some all → IsEnvironment all
+pub taken-environment : (rows all : List Row) → list_all is_variable_name (names_of rows) ≡ true → if_they_differ rows ≡ Some all → IsEnvironment all
 taken-environment rows all h i = by (names_differ (names_of rows)) refl i
   where
     by : (b : Bool) → names_differ (names_of rows) ≡ b → cond b (Some rows) None ≡ Some all → IsEnvironment all
@@ -159,33 +161,33 @@ before-equals (c ∷ text) = by (c == 61) refl (before-equals text)
         ap (λ n. list_any (λ c. c == 61) (take n (c ∷ text))) up ∙ neither _ _ e h
 
 -- the name of a row that is cut is one of an environment
-pub cut_fits : (text : List ℕ) (row : Row) → cut_row text ≡ Some row → is_environment_name row.0 ≡ true
+pub cut_fits : (text : List ℕ) (row : Row) → cut_row text ≡ Some row → is_variable_name row.0 ≡ true
 cut_fits text row h = by (position_or_len (λ c. c == 61) text == length text) (length (before_first (λ c. c == 61) text) == 0) refl h
   where
     by : (a b : Bool) → (length (before_first (λ c. c == 61) text) == 0) ≡ b
-        → cond a None (cond b None (Some (before_first (λ c. c == 61) text, after_first (λ c. c == 61) text))) ≡ Some row → is_environment_name row.0 ≡ true
+        → cond a None (cond b None (Some (before_first (λ c. c == 61) text, after_first (λ c. c == 61) text))) ≡ Some row → is_variable_name row.0 ≡ true
     by true b e j = cc
     by false true e j = cc
     by false false e j =
         let same : (before_first (λ c. c == 61) text, after_first (λ c. c == 61) text) ≡ row = cc in
-        ap (λ (r : Row). is_environment_name r.0) (sym same) ∙ both _ _ (off _ e) (off _ (before-equals text))
+        ap (λ (r : Row). is_variable_name r.0) (sym same) ∙ both _ _ (off _ e) (off _ (before-equals text))
 
 -- the names of all rows that are cut are such
-pub cut_all : (texts : List (List ℕ)) (rows : List Row) → all_some (map cut_row texts) ≡ Some rows → list_all is_environment_name (names_of rows) ≡ true
-cut_all [] rows h = let same : [] ≡ rows = cc in ap (λ (rs : List Row). list_all is_environment_name (names_of rs)) (sym same)
+pub cut_all : (texts : List (List ℕ)) (rows : List Row) → all_some (map cut_row texts) ≡ Some rows → list_all is_variable_name (names_of rows) ≡ true
+cut_all [] rows h = let same : [] ≡ rows = cc in ap (λ (rs : List Row). list_all is_variable_name (names_of rs)) (sym same)
 cut_all (text ∷ texts) rows h = by (cut_row text) refl (all_some (map cut_row texts)) h (λ more i. cut_all texts more i) refl
   where
     by : (o : Option Row) → cut_row text ≡ o → (rest : Option (List Row)) → all_some (o ∷ map cut_row texts) ≡ Some rows
-        → ((more : List Row) → all_some (map cut_row texts) ≡ Some more → list_all is_environment_name (names_of more) ≡ true) → all_some (map cut_row texts) ≡ rest → list_all is_environment_name (names_of rows) ≡ true
+        → ((more : List Row) → all_some (map cut_row texts) ≡ Some more → list_all is_variable_name (names_of more) ≡ true) → all_some (map cut_row texts) ≡ rest → list_all is_variable_name (names_of rows) ≡ true
     by None e rest j g r = cc
     by (Some row) e None j g r = cc
     by (Some row) e (Some more) j g r =
         let whole : option_map (λ xs. row ∷ xs) (Some more) ≡ Some rows = ap (option_map (λ xs. row ∷ xs)) (sym r) ∙ j in
         let same : row ∷ more ≡ rows = cc in
-        ap (λ (rs : List Row). list_all is_environment_name (names_of rs)) (sym same) ∙ both _ _ (cut_fits text row e) (g more r)
+        ap (λ (rs : List Row). list_all is_variable_name (names_of rs)) (sym same) ∙ both _ _ (cut_fits text row e) (g more r)
 
 -- an environment that rows were put into, or were not
-pub environment-kept : {E : Type 0} (result : Result (Unit {0}) E) (old new rows : List Row) → OnOk result (new ≡ put_rows old rows) → OnErr result (new ≡ old) → IsEnvironment old → list_all is_environment_name (names_of rows) ≡ true → IsEnvironment new
+pub environment-kept : {E : Type 0} (result : Result (Unit {0}) E) (old new rows : List Row) → OnOk result (new ≡ put_rows old rows) → OnErr result (new ≡ old) → IsEnvironment old → list_all is_variable_name (names_of rows) ≡ true → IsEnvironment new
 environment-kept (Ok u) old new rows ok err is fits = subst IsEnvironment (sym ok) (environment-rows old rows is fits)
 environment-kept (Err e) old new rows ok err is fits = subst IsEnvironment (sym err) is
 

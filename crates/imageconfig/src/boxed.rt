@@ -1,8 +1,5 @@
-ghost use Rattle.std.specs.Prelude.{◌≡◌, true, IfOk, OnOk, OnErr};
-ghost use Rattle.std.specs.List.{list_all};
+ghost use Rattle.std.specs.Prelude.{◌≡◌, IfOk, OnOk, OnErr};
 ghost use Rattle.instructions.specs.Instruction.{IsInstruction};
-ghost use Rattle.plain.specs.Variable.{names_of as variable_names};
-ghost use Rattle.plain.specs.VariableName.{is_variable_name};
 ghost use Rattle.scopes.specs.Scope.{value_in};
 ghost use Rattle.imageconfig.specs.Steps.{child_of, with_variables, IsApplied};
 
@@ -76,7 +73,6 @@ impl BoxedConfig {
 
     /// Gives variables of the environment their values, as `Environment::set_variables`.
     pub fn set_variables(&mut self, alloc: Global, variables: &[Variable]) -> Result<(), Memory>
-        requires { list_all is_variable_name (variable_names variables.now) ≡ true }
         ensures ok { OnOk result (self.new ≡ with_variables self.old variables.now) }
         ensures err { OnErr result (self.new ≡ self.old) }
     {

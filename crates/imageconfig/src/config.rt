@@ -1,10 +1,7 @@
-ghost use Rattle.std.specs.Prelude.{◌≡◌, IfOk, OnOk, OnErr, true, false};
-ghost use Rattle.std.specs.List.{list_all};
+ghost use Rattle.std.specs.Prelude.{◌≡◌, IfOk, OnOk, OnErr, false};
 ghost use Rattle.serde_json.specs.View.{view};
 ghost use Rattle.serde_json.specs.Written.{has_float};
 ghost use Rattle.instructions.specs.Instruction.{IsInstruction};
-ghost use Rattle.plain.specs.Variable.{names_of as variable_names};
-ghost use Rattle.plain.specs.VariableName.{is_variable_name};
 ghost use Rattle.scopes.specs.Scope.{value_in};
 ghost use Rattle.strict.specs.Gives.{Gives};
 ghost use Rattle.imageconfig.specs.Reading.{plain, config_in};
@@ -108,7 +105,6 @@ impl Config {
         alloc: Global,
         variables: &[Variable],
     ) -> Result<(), Memory>
-        requires { list_all is_variable_name (variable_names variables.now) ≡ true }
         ensures ok { OnOk result (self.new ≡ with_variables self.old variables.now) }
         ensures err { OnErr result (self.new ≡ self.old) }
     {

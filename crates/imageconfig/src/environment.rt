@@ -1,6 +1,8 @@
 ghost use Rattle.std.specs.Prelude.{◌≡◌, ◌==◌, [], length, map, true, IfOk, OnOk, OnErr};
 ghost use Rattle.std.specs.List.{list_all};
-ghost use Rattle.scopes.specs.Scope.{is_environment_name, names_differ, names_of as variable_names};
+ghost use Rattle.plain.specs.Variable.{names_of as variable_names};
+ghost use Rattle.plain.specs.VariableName.{is_variable_name};
+ghost use Rattle.scopes.specs.Scope.{names_differ};
 ghost use Rattle.serde_json.specs.View.{view};
 ghost use Rattle.strict.specs.Gives.{Gives};
 ghost use Rattle.strict.specs.Written.{list_data};
@@ -61,7 +63,6 @@ impl Environment {
     pub fn variables(&self, alloc: Global) -> Result<Items<Variable>, Memory>
         ensures variables { IfOk result (λ variables. variables ≡ variables_of self.now) }
         ensures names { IsEnvironment self.now }
-        ensures fit { IfOk result (λ variables. list_all is_environment_name (variable_names variables) ≡ true) }
         ensures differ { IfOk result (λ variables. names_differ (variable_names variables) ≡ true) }
     {
         self.rows.variables(alloc)
@@ -76,10 +77,7 @@ impl Environment {
 
     /// Gives variables their values, each in the place that its name has, or at the end where it has none. The values share the bytes of
     /// those that are shared. After `Memory` the environment is as it was.
-    ///
-    /// The names are such as the environment keeps: those of what an ENV sets are, as `Scope::variables` says.
     pub fn set_variables(&mut self, alloc: Global, variables: &[Variable]) -> Result<(), Memory>
-        requires { list_all is_environment_name (variable_names variables.now) ≡ true }
         ensures ok { OnOk result (self.new ≡ put_rows self.old (map row_of variables.now)) }
         ensures err { OnErr result (self.new ≡ self.old) }
     {
@@ -100,7 +98,7 @@ impl Environment {
         keys: RandomState,
         rows: Items<(Text, Text)>,
     ) -> Result<Environment, ReadFault>
-        requires { list_all is_environment_name (names_of rows) ≡ true }
+        requires { list_all is_variable_name (names_of rows) ≡ true }
         ensures { Gives result (if_they_differ rows) }
     {
         let rows = Rows::once(alloc, keys, rows)?;

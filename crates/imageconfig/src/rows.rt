@@ -1,4 +1,7 @@
-ghost use Rattle.std.specs.Prelude.{◌≡◌, ◌==◌, ◌↔◌, [], length, map, IsTrue, IfOk, OnOk, OnErr};
+ghost use Rattle.std.specs.Prelude.{◌≡◌, ◌==◌, ◌↔◌, [], length, map, true, IsTrue, IfOk, OnOk, OnErr};
+ghost use Rattle.std.specs.List.{list_all};
+ghost use Rattle.plain.specs.Variable.{HaveNames};
+ghost use Rattle.plain.specs.VariableName.{is_variable_name};
 ghost use Rattle.serde_json.specs.View.{view, members_view, items_view, items_of};
 ghost use Rattle.serde_json.specs.Data.{no_members};
 ghost use Rattle.strict.specs.Gives.{Gives};
@@ -6,12 +9,12 @@ ghost use Rattle.strict.specs.Written.{list_data};
 ghost use Rattle.imageconfig.specs.Environment.{row_of, variables_of};
 ghost use Rattle.imageconfig.specs.PrivateRows.{add_rows};
 ghost use Rattle.imageconfig.specs.Reading.{if_they_differ};
-ghost use Rattle.imageconfig.specs.Rows.{put_rows};
+ghost use Rattle.imageconfig.specs.Rows.{names_of, put_rows};
 ghost use Rattle.imageconfig.specs.Writing.{variable_data, put_texts_of, rows_data};
 
 use indexmap::map::Slice;
 use named::NamedRows;
-use plain::{Exact, Fault, Items, Memory, Text, Variable};
+use plain::{Exact, Fault, Items, Memory, Text, Variable, VariableName};
 use serde_json::{Map, Value};
 use std::alloc::Global;
 use std::hash::RandomState;
@@ -93,6 +96,7 @@ impl Rows {
 
     /// The rows as variables.
     pub(crate) fn variables(&self, alloc: Global) -> Result<Items<Variable>, Memory>
+        requires { list_all is_variable_name (names_of self.now) ≡ true }
         ensures { IfOk result (λ variables. variables ≡ variables_of self.now) }
     {
         variables(alloc, &self.rows)
@@ -139,11 +143,12 @@ pub(crate) fn variable_rows(
     alloc: Global,
     variables: &[Variable],
 ) -> Result<Items<(Text, Text)>, Memory>
-    ensures { IfOk result (λ rows. rows ≡ map row_of variables.now) }
+    ensures rows { IfOk result (λ rows. rows ≡ map row_of variables.now) }
+    ensures names { IfOk result (λ rows. HaveNames variables.now) }
 {
     let mut rows = Items::new(alloc);
     for variable in variables {
-        let name = variable.name.copy(alloc)?;
+        let name = variable.name.as_text().copy(alloc)?;
         let value = variable.value.copy(alloc)?;
         rows.push((name, value))?;
     }
@@ -185,11 +190,12 @@ fn members(alloc: Global, rows: &NamedRows<Text>) -> Result<Map<String, Value>, 
 
 /// The rows as variables.
 fn variables(alloc: Global, rows: &NamedRows<Text>) -> Result<Items<Variable>, Memory>
+    requires { list_all is_variable_name (names_of rows.now) ≡ true }
     ensures { IfOk result (λ variables. variables ≡ variables_of rows.now) }
 {
     let mut variables = Items::new(alloc);
     for (name, value) in rows.as_slice().iter() {
-        let name = name.copy(alloc)?;
+        let name = VariableName::of(name.copy(alloc)?);
         let value = value.copy(alloc)?;
         variables.push(Variable { name, value })?;
     }
