@@ -5,8 +5,10 @@ use Rattle.std.proofs.Common.{sym, ap, ◌∙◌, subst, arith}
 use Rattle.std.proofs.Math.Dec.{eqb-suc-zero}
 use Rattle.std.proofs.lemmas.Bool.{eq-eqb, not-false, not_from_false, true≢false}
 use Rattle.std.proofs.lemmas.List.Sums.{length-filter}
-use Rattle.std.proofs.lemmas.List.Folds.{list_all-map, list_all-append}
+use Rattle.std.proofs.lemmas.List.Folds.{list_all-append}
 use Rattle.std.proofs.lemmas.Option.{none-some}
+use Rattle.plain.specs.Variable.{names_of}
+use Rattle.plain.specs.VariableName.{is_variable_name}
 use Rattle.plain.specs.declared.refusal.Code.{Code}
 use Rattle.plain.specs.declared.refusal.Code.TheVariants.{R06, R14, R15, R17, R18}
 use Rattle.expand.specs.Value.{Parts, value}
@@ -25,7 +27,7 @@ use Rattle.instructions.specs.declared.instruction.InstructionKind.TheVariants.{
 use Rattle.instructions.specs.declared.instruction.Source.{Source}
 use Rattle.instructions.specs.declared.instruction.Source.TheVariants.{Files, Document}
 use Rattle.llb.specs.declared.op.Bind.{Bind}
-use Rattle.llb.specs.WellFormed.{is_environment, is_variable_name, is_pattern, inputs_of_copy, is_well_formed_file_source}
+use Rattle.llb.specs.WellFormed.{is_environment, is_pattern, inputs_of_copy, is_well_formed_file_source}
 use Rattle.options.specs.declared.copy.CopyFlags.{CopyFlags}
 use Rattle.options.specs.declared.mount.Mount.{Mount}
 use Rattle.options.specs.declared.mount.MountKind.{MountKind}
@@ -37,8 +39,6 @@ use Rattle.rows.specs.WellFormed.{IsAction}
 use Rattle.rows.specs.declared.row.Origin.{Origin}
 use Rattle.runs.specs.Run.{mounts_fit, ids_differ}
 use Rattle.runs.specs.declared.run.CacheUse.{CacheUse}
-use Rattle.plain.specs.Variable.{names_of}
-use Rattle.plain.specs.VariableName.{is_variable_name}
 use Rattle.scopes.specs.Scope.{run_env, names_differ, value_in}
 use Rattle.scopes.specs.declared.declaration.Declaration.{Declaration}
 use Rattle.actions.proofs.LimitFacts.{neither}
@@ -81,7 +81,7 @@ differ-same (name ∷ names) = ap (λ b. not (list_any (bytes_eq name) names) &&
 
 is_proper : (scope : List Declaration) → names_differ (names_of (run_env scope)) ≡ true → list_all is_variable_name (names_of (run_env scope)) ≡ true → is_environment (run_env scope) ≡ true
 is_proper scope differ fit =
-    both_hold _ _ (sym (list_all-map is_variable_name (λ v. v.name) (run_env scope)) ∙ fit) (differ-same (names_of (run_env scope)) ∙ differ)
+    both_hold _ _ fit (differ-same (names_of (run_env scope)) ∙ differ)
 
 -- the mounts
 

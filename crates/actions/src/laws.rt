@@ -11,9 +11,9 @@ ghost use Rattle.instructions.specs.declared.instruction.InstructionKind.TheVari
 ghost use Rattle.instructions.specs.declared.instruction.Source.{Source};
 ghost use Rattle.options.specs.declared.copy.CopyFlags.{CopyFlags};
 ghost use Rattle.options.specs.declared.mount.Mount.{Mount};
+ghost use Rattle.plain.specs.VariableName.{is_variable_name};
 ghost use Rattle.rows.specs.WellFormed.{IsAction};
 ghost use Rattle.rows.specs.declared.row.Origin.{Origin};
-ghost use Rattle.plain.specs.VariableName.{is_variable_name};
 ghost use Rattle.scopes.specs.Scope.{names_in};
 ghost use Rattle.scopes.specs.declared.declaration.Declaration.{Declaration};
 ghost use Rattle.actions.specs.Copy.{copy_action, copy_due, copy_fault};
