@@ -80,7 +80,9 @@ fn do_merges_differ(alloc: Global, vertices: &[Vertex], marks: &[bool]) -> Resul
 fn are_pairs(vertices: &[Vertex]) -> bool
     ensures { result ≡ list_all is_pair vertices.now }
 {
-    vertices.iter().all(|vertex| !is_merge(&vertex.op) || vertex.inputs.len() == 2)
+    vertices
+        .iter()
+        .all(|vertex| !is_merge(&vertex.op) || vertex.inputs.len() == 2)
 }
 
 /// Whether each of the merges that are marked has a last input of its own.
