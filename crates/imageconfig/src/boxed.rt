@@ -1,5 +1,4 @@
 ghost use Rattle.std.specs.Prelude.{◌≡◌, IfOk, OnOk, OnErr};
-ghost use Rattle.instructions.specs.Instruction.{IsInstruction};
 ghost use Rattle.scopes.specs.Scope.{value_in};
 ghost use Rattle.imageconfig.specs.Steps.{child_of, with_variables, IsApplied};
 
@@ -8,7 +7,7 @@ use borrowed::FromLentKeyed;
 use expand::RejectionFault;
 use instructions::Instruction;
 use json::Value as Lent;
-use plain::{Memory, Variable};
+use plain::{Exact, Memory, Variable};
 use scopes::Scope;
 use std::alloc::Global;
 use std::hash::RandomState;
@@ -86,10 +85,19 @@ impl BoxedConfig {
         instruction: &Instruction,
         before: &Scope,
     ) -> Result<(), RejectionFault>
-        requires { IsInstruction instruction.now.kind }
         ensures { IsApplied self.old (value_in before.now) instruction.now self.new result }
     {
         self.inner.apply(alloc, instruction, before)
+    }
+}
+
+impl Exact for BoxedConfig {
+    fn same(&self, other: &BoxedConfig) -> bool {
+        self.get().same(other.get())
+    }
+
+    fn copy(&self, alloc: Global) -> Result<BoxedConfig, Memory> {
+        BoxedConfig::new(alloc, self.get().copy(alloc)?)
     }
 }
 

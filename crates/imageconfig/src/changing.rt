@@ -1,7 +1,6 @@
 ghost use Rattle.std.specs.Prelude.{◌≡◌, Some, OnOk, OnErr};
 ghost use Rattle.expand.specs.Expanding.{unexpanded};
 ghost use Rattle.expand.specs.Value.{value};
-ghost use Rattle.instructions.specs.Instruction.{IsInstruction};
 ghost use Rattle.instructions.specs.Reason.{Evaluates};
 ghost use Rattle.instructions.specs.declared.instruction.InstructionKind.TheVariants as spelled;
 ghost use Rattle.paths.specs.Reading.{read_from};
@@ -26,7 +25,6 @@ pub(crate) fn change(
     kind: &InstructionKind,
     before: &Scope,
 ) -> Result<(), ReasonFault>
-    requires { IsInstruction kind.now }
     ensures { IsChanged config.old (value_in before.now) kind.now config.new result }
 {
     match kind {
@@ -54,7 +52,6 @@ fn set_env(
     assignments: &Items<Assignment>,
     before: &Scope,
 ) -> Result<(), ReasonFault>
-    requires { IsInstruction (spelled.Env assignments.now) }
     ensures { IsChanged config.old (value_in before.now) (spelled.Env assignments.now) config.new result }
 {
     match before.variables(alloc, assignments.as_slice()) {

@@ -1,7 +1,6 @@
 ghost use Rattle.std.specs.Prelude.{◌≡◌, IfOk, OnOk, OnErr, false};
 ghost use Rattle.serde_json.specs.View.{view};
 ghost use Rattle.serde_json.specs.Written.{has_float};
-ghost use Rattle.instructions.specs.Instruction.{IsInstruction};
 ghost use Rattle.scopes.specs.Scope.{value_in};
 ghost use Rattle.strict.specs.Gives.{Gives};
 ghost use Rattle.imageconfig.specs.Reading.{plain, config_in};
@@ -120,15 +119,12 @@ impl Config {
     /// label has an empty key. R16: an EXPOSE has what is no port. R18: a text has more than 1,048,576 bytes, or a WORKDIR leads past a limit
     /// of paths. R21: a variable that is required doesn't pass its test; of several such texts the first in reading order gives the text. A
     /// text that has no value gets no other test. After a fault the configuration is as it was.
-    ///
-    /// The instruction keeps what each keeps that a line spells: that is a law of `instructions`.
     pub fn apply(
         &mut self,
         alloc: Global,
         instruction: &Instruction,
         before: &Scope,
     ) -> Result<(), RejectionFault>
-        requires { IsInstruction instruction.now.kind }
         ensures { IsApplied self.old (value_in before.now) instruction.now self.new result }
     {
         match change(alloc, self, instruction.kind(), before) {
