@@ -1,9 +1,7 @@
 -- What evaluating a table answers, by what its stages answer.
-use Rattle.std.specs.Prelude.{◌≡◌, ◌≤◌, ℕ, Bool, List, Option, Result, Ok, Err, length, slice_get, slice_index_or, refl}
-use Rattle.std.specs.List.{All}
+use Rattle.std.specs.Prelude.{◌≡◌, ◌≤◌, ℕ, Bool, List, Option, Result, Ok, Err, length, slice_get, refl}
 use Rattle.std.specs.FinMap.{len}
 use Rattle.std.proofs.Common.{sym, ◌∙◌, ap, subst, inl}
-use Rattle.std.proofs.lemmas.Option.{slice_get-get_or}
 use Rattle.plain.specs.declared.fault.Fault.{Fault}
 use Rattle.plain.specs.declared.fault.Fault.TheVariants.{Because, Memory}
 use Rattle.expand.specs.declared.reason.Rejection.{Rejection}
@@ -15,25 +13,18 @@ use Rattle.scopes.specs.Evaluate.{Values}
 use Rattle.scopes.specs.Scope.{value_in}
 use Rattle.scopes.specs.declared.declaration.Declaration.{Declaration}
 use Rattle.stages.specs.Needed.{AreNeeded}
-use Rattle.stages.specs.Table.{TableValue, IsTable}
+use Rattle.stages.specs.Table.{TableValue}
 use Rattle.stages.specs.declared.stage.ResolvedStage.{ResolvedStage}
 use Rattle.imageconfig.specs.declared.config.Config.{Config}
 use Rattle.evaluation.specs.Evaluated.{no_stage, IsMade, EvaluatesTable, config_of, config_at}
 use Rattle.evaluation.specs.Images.{ImageNames, AreSources}
 use Rattle.evaluation.specs.PrivateKept.{IsKept, AreKept}
 use Rattle.evaluation.specs.PrivateMaking.{MakesWith, Makes}
-use Rattle.evaluation.specs.PrivateNames.{AreWhole}
 use Rattle.evaluation.specs.Stages.{stages_from}
 use Rattle.evaluation.specs.declared.evaluated.Evaluated.{Evaluated}
 use Rattle.evaluation.specs.declared.state.State.{State}
 use Rattle.evaluation.specs.declared.walk.Walk.{Walk}
 use Rattle.evaluation.proofs.WantedFacts.{index_same}
-
--- each instruction of a table is whole
-pub all_whole : (table : TableValue) (stages : List ResolvedStage) → IsTable table → stages ≡ table.stages → All AreWhole stages
-all_whole table stages are same =
-    subst (All AreWhole) (sym same)
-    (λ k d within j e inside. ((are.each k (slice_index_or table.stages k d) (slice_get-get_or table.stages k d within)).instructions j e inside).whole)
 
 -- what a table answers
 

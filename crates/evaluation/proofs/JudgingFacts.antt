@@ -1,6 +1,5 @@
 -- The walk that goes on after a refusal: a stage after those before it, and all stages one after another.
 use Rattle.std.specs.Prelude.{◌≡◌, ℕ, Bool, true, false, List, [], ◌∷◌, ◌++◌, Option, Some, Result, Ok, Err, length, refl, IfOk, if◌then◌else◌}
-use Rattle.std.specs.List.{All}
 use Rattle.std.proofs.Common.{sym, ◌∙◌, ap, subst, arith, append-nil, append_assoc}
 use Rattle.std.proofs.lemmas.Bool.{true≢false}
 use Rattle.plain.specs.Marks.{is_marked}
@@ -31,7 +30,6 @@ use Rattle.evaluation.specs.declared.stage.Progress.{Progress}
 use Rattle.evaluation.specs.declared.state.State.{State}
 use Rattle.evaluation.specs.declared.walk.Walk.{Walk}
 use Rattle.evaluation.proofs.ReachedFacts.{same_ok}
-use Rattle.evaluation.proofs.StepFacts.{item_is}
 use Rattle.evaluation.proofs.WalkFacts.{added_put, added_reported}
 use Rattle.evaluation.proofs.WantedFacts.{refusals_alike}
 
@@ -225,12 +223,6 @@ unfolding JudgedSoFar AreJudged
 judged_all args outer images needed wants all rest whole now far over same =
     over_by args outer images needed wants rest now (kept_refusals args outer images needed wants no_stage all) far.1.1 over
     ∙ ap (kept_refusals args outer images needed wants no_stage) same
-
-pub judged_is : (P : ResolvedStage → Type 0) (args outer : Values) (images : ImagesValue Config) (needed : List Bool) (wants : ℕ → ℕ → Bool) (all rest left whole : List ResolvedStage) (stage : ResolvedStage) (now : Judged)
-    → JudgedSoFar args outer images needed wants all rest now → rest ≡ stage ∷ left → all ≡ whole → All P whole → P stage
-unfolding JudgedSoFar
-judged_is P args outer images needed wants all rest left whole stage now far is same are =
-    item_is P all far.0 rest left stage (subst (All P) (sym same) are) far.1.0 is
 
 -- what is kept is enough
 

@@ -1,7 +1,6 @@
 -- A step of a stage, and a stage after those before it.
-use Rattle.std.specs.Prelude.{◌≡◌, ◌||◌, ℕ, suc, true, false, List, [], ◌∷◌, ◌++◌, Option, Some, None, Result, Ok, Err, length, nat_lt, refl}
-use Rattle.std.specs.List.{All}
-use Rattle.std.proofs.Common.{sym, ◌∙◌, ap, subst, arith}
+use Rattle.std.specs.Prelude.{◌≡◌, ◌||◌, ℕ, true, false, List, ◌∷◌, Option, Some, None, Result, Ok, Err, length, nat_lt, refl}
+use Rattle.std.proofs.Common.{sym, ◌∙◌, ap, subst}
 use Rattle.plain.specs.Limits.{most_images}
 use Rattle.plain.specs.declared.fault.Fault.{Fault}
 use Rattle.plain.specs.declared.fault.Fault.TheVariants.{Because, Memory}
@@ -26,18 +25,6 @@ use Rattle.evaluation.specs.declared.stage.Progress.{Progress}
 use Rattle.evaluation.specs.declared.state.State.{State}
 use Rattle.evaluation.proofs.FoldFacts.{SoFar, so_far_first, so_far_more, so_far_reported, so_far_all}
 use Rattle.evaluation.proofs.ReasonFacts.{many_is, reason_is}
-
--- an item of a list of which all elements are so
-
-tail_are : {X : Type 0} (P : X → Type 0) (x : X) (xs : List X) → All P (x ∷ xs) → All P xs
-tail_are P x xs h k d within = h (suc k) d (omega arith)
-
-item_at : {X : Type 0} (P : X → Type 0) (before left : List X) (x : X) → All P (before ++ x ∷ left) → P x
-item_at P [] left x h = h 0 x (omega arith)
-item_at P (b ∷ bs) left x h = item_at P bs left x (tail_are P b (bs ++ x ∷ left) h)
-
-pub item_is : {X : Type 0} (P : X → Type 0) (all before rest left : List X) (x : X) → All P all → all ≡ before ++ rest → rest ≡ x ∷ left → P x
-item_is P all before rest left x are split is = item_at P before left x (subst (All P) (split ∙ ap (λ xs. before ++ xs) is) are)
 
 -- a refusal by its parts
 
@@ -153,9 +140,3 @@ unfolding NextSoFar AreNext
 next_all args outer first all rest whole now far over same =
     subst (λ (rs : List ResolvedInstruction). instructions_from args outer (Ok first) rs ≡ Ok now) same
     (so_far_all (next_instruction args outer) first all rest now far over)
-
-pub next_is : (P : ResolvedInstruction → Type 0) (args outer : Values) (first : Progress) (all rest left whole : List ResolvedInstruction) (r : ResolvedInstruction) (now : Progress)
-    → NextSoFar args outer first all rest now → rest ≡ r ∷ left → all ≡ whole → All P whole → P r
-unfolding NextSoFar
-next_is P args outer first all rest left whole r now far is same are =
-    item_is P all far.before rest left r (subst (All P) (sym same) are) far.split is

@@ -1,6 +1,5 @@
 -- A stage after those before it, and all stages one after another.
 use Rattle.std.specs.Prelude.{◌≡◌, ℕ, Bool, true, false, List, [], ◌∷◌, ◌++◌, Option, Some, None, Result, Ok, Err, length, nat_lt, refl, if◌then◌else◌}
-use Rattle.std.specs.List.{All}
 use Rattle.std.proofs.Common.{sym, ◌∙◌, ap, subst}
 use Rattle.plain.specs.Limits.{most_images}
 use Rattle.plain.specs.Marks.{is_marked}
@@ -30,7 +29,7 @@ use Rattle.evaluation.specs.declared.stage.Progress.{Progress}
 use Rattle.evaluation.specs.declared.state.State.{State}
 use Rattle.evaluation.specs.declared.walk.Walk.{Walk}
 use Rattle.evaluation.proofs.FoldFacts.{SoFar, so_far_first, so_far_more, so_far_reported, so_far_all, not_due, refused_or_ok}
-use Rattle.evaluation.proofs.StepFacts.{item_is, many_reported, few_go_on}
+use Rattle.evaluation.proofs.StepFacts.{many_reported, few_go_on}
 use Rattle.evaluation.proofs.WantedFacts.{Alike, stages_alike}
 
 -- the names with a FROM's
@@ -210,12 +209,6 @@ unfolding StagesSoFar AreStages
 stages_all args outer images needed wants all rest whole now far over same =
     subst (λ (ss : List ResolvedStage). kept_from args outer images needed wants (Ok no_stage) ss ≡ Ok now) same
     (so_far_all (kept_next args outer images needed wants) no_stage all rest now far over)
-
-pub stage_is : (P : ResolvedStage → Type 0) (args outer : Values) (images : ImagesValue Config) (needed : List Bool) (wants : ℕ → ℕ → Bool) (all rest left whole : List ResolvedStage) (stage : ResolvedStage) (now : Walk)
-    → StagesSoFar args outer images needed wants all rest now → rest ≡ stage ∷ left → all ≡ whole → All P whole → P stage
-unfolding StagesSoFar
-stage_is P args outer images needed wants all rest left whole stage now far is same are =
-    item_is P all far.before rest left stage (subst (All P) (sym same) are) far.split is
 
 -- what is kept of all stages
 

@@ -1,6 +1,6 @@
 -- Names of variables that an environment may have.
 use Rattle.std.specs.Prelude.{◌≡◌, true, Option, Some, None}
-use Rattle.std.specs.List.{All, list_all}
+use Rattle.std.specs.List.{list_all}
 use Rattle.std.specs.FinMap.{get}
 use Rattle.llb.specs.declared.op.Source.{Source}
 use Rattle.llb.specs.declared.op.Source.TheVariants.{Scratch, Context, Image}
@@ -8,11 +8,8 @@ use Rattle.plans.specs.Images.{ImagesValue}
 use Rattle.plans.specs.declared.images.Image as image
 use Rattle.rows.specs.declared.row.Origin.{Origin}
 use Rattle.rows.specs.declared.row.Origin.TheVariants.{Source as SourceOf, Stage as StageOf}
-use Rattle.instructions.specs.Instruction.{IsInstruction}
 use Rattle.plain.specs.VariableName.{is_variable_name}
 use Rattle.scopes.specs.Scope.{names_in}
-use Rattle.stages.specs.declared.stage.ResolvedInstruction.{ResolvedInstruction}
-use Rattle.stages.specs.declared.stage.ResolvedStage.{ResolvedStage}
 use Rattle.imageconfig.specs.Environment.{IsEnvironment}
 use Rattle.imageconfig.specs.declared.config.Config.{Config}
 use Rattle.evaluation.specs.declared.state.State.{State}
@@ -36,7 +33,3 @@ IsProperSource images (Image name) = HasFoundNames (get images name)
 abbrev pub IsProperBase : ImagesValue Config → Origin → Type 0
 IsProperBase images (SourceOf source) = IsProperSource images source
 IsProperBase images (StageOf number) = Unit {0}
-
--- each instruction of a stage is whole
-abbrev pub AreWhole : ResolvedStage → Type 0
-AreWhole stage = All (λ (r : ResolvedInstruction). IsInstruction r.instruction.kind) stage.instructions

@@ -1,13 +1,11 @@
 ghost use Rattle.std.specs.Prelude.{◌≡◌, ◌∷◌, ◌++◌, [], Some as SomeOf, IfOk, slice_get};
-ghost use Rattle.std.specs.List.{All};
 ghost use Rattle.std.specs.FinMap.{get as arg_value};
 ghost use Rattle.scopes.specs.Scope.{value_in};
 ghost use Rattle.stages.specs.Needed.{AreNeeded};
-ghost use Rattle.evaluation.specs.Faults.{leaves_nothing, is_base_lost, with_refused, AreTableFaults};
+ghost use Rattle.evaluation.specs.Faults.{leaves_nothing, is_base_lost, AreTableFaults};
 ghost use Rattle.evaluation.specs.Stages.{with_none};
 ghost use Rattle.evaluation.specs.PrivateFaults.{IsOpenedJudged, IsNeededJudged, IsJudged, AreJudged, AreAllJudged};
 ghost use Rattle.evaluation.specs.PrivateKept.{is_wanted, state_if};
-ghost use Rattle.evaluation.specs.PrivateNames.{AreWhole};
 
 use crate::given::Given;
 use crate::names::NamedImages;
@@ -140,7 +138,6 @@ fn judge_opened(
     faults: Items<Rejection>,
     stage: ResolvedStage,
 ) -> Result<Judged, Memory>
-    requires { AreWhole stage }
     ensures { IsOpenedJudged (arg_value given.now.args.now) (value_in given.now.outer.now) (is_wanted users.now) opened faults stage result }
 {
     let Opened { walk, state } = opened;
@@ -190,7 +187,6 @@ fn judge_needed_stage(
     judged: Judged,
     stage: ResolvedStage,
 ) -> Result<Judged, Memory>
-    requires { AreWhole stage }
     ensures { IsNeededJudged (arg_value given.now.args.now) (value_in given.now.outer.now) given.now.images.now (is_wanted users.now) judged stage result }
 {
     let Judged { walk, faults } = judged;
@@ -213,7 +209,6 @@ fn judge_stage(
     judged: Judged,
     stage: ResolvedStage,
 ) -> Result<Judged, Memory>
-    requires { AreWhole stage }
     ensures { IsJudged (arg_value given.now.args.now) (value_in given.now.outer.now) given.now.images.now needed.now (is_wanted users.now) judged stage result }
 {
     let is_lost = is_base_lost(needed, judged.walk.states.as_slice(), &stage.base);
@@ -236,7 +231,6 @@ fn judge_in_turn(
     users: &Users,
     stages: Vec<ResolvedStage>,
 ) -> Result<Items<Rejection>, Memory>
-    requires { All AreWhole stages.items }
     ensures { AreJudged (arg_value given.now.args.now) (value_in given.now.outer.now) given.now.images.now needed.now (is_wanted users.now) stages.items result }
 {
     let mut judged = Judged {
@@ -266,7 +260,6 @@ fn judge_stages(
     target: u32,
     stages: Vec<ResolvedStage>,
 ) -> Result<Items<Rejection>, Memory>
-    requires { All AreWhole stages.items }
     ensures { AreAllJudged (arg_value given.now.args.now) (value_in given.now.outer.now) given.now.images.now needed.now stages.items result }
 {
     match Users::of(alloc, needed, stages.as_slice(), target) {

@@ -1,12 +1,8 @@
-ghost use Rattle.std.specs.Prelude.{◌≡◌, true, Some, None as NoneOf, OnOk};
-ghost use Rattle.std.specs.List.{list_all};
+ghost use Rattle.std.specs.Prelude.{◌≡◌, Some, None as NoneOf, OnOk};
 ghost use Rattle.std.specs.FinMap.{get as arg_value};
-ghost use Rattle.instructions.specs.Instruction.{IsInstruction};
 ghost use Rattle.instructions.specs.Least.{Meets};
 ghost use Rattle.instructions.specs.Reason.{Evaluates};
 ghost use Rattle.instructions.specs.declared.instruction.InstructionKind.TheVariants as spelled;
-ghost use Rattle.plain.specs.Variable.{names_of};
-ghost use Rattle.plain.specs.VariableName.{is_variable_name};
 ghost use Rattle.scopes.specs.Scope.{value_in};
 ghost use Rattle.imageconfig.specs.Steps.{due as config_due, fault as config_fault};
 ghost use Rattle.actions.specs.Copy as of_copy;
@@ -92,7 +88,6 @@ fn declare(
 
 /// Variables in the configuration and in the scope, which hold one text of each value.
 fn set_both(alloc: Global, state: &mut State, variables: &[Variable]) -> Result<(), Memory>
-    requires { list_all is_variable_name (names_of variables.now) ≡ true }
     ensures { OnOk result (state.new ≡ both_set state.old variables.now) }
 {
     state.config.set_variables(alloc, variables)?;
@@ -106,7 +101,6 @@ fn set_variables(
     line: u32,
     assignments: &[Assignment],
 ) -> Result<State, RejectionFault>
-    requires { IsInstruction (spelled.Env assignments.now) }
     ensures { EvaluatesTo (variables_set state assignments.now) (config_due (value_in state.scope) state.config (spelled.Env assignments.now)) (config_fault (value_in state.scope) (spelled.Env assignments.now)) line result }
 {
     let mut state = state;
@@ -131,7 +125,6 @@ fn configure(
     state: State,
     instruction: &Instruction,
 ) -> Result<State, RejectionFault>
-    requires { IsInstruction instruction.now.kind }
     ensures { EvaluatesTo (configured state instruction.now.kind) (config_due (value_in state.scope) state.config instruction.now.kind) (config_fault (value_in state.scope) instruction.now.kind) instruction.now.line result }
 {
     let mut state = state;
@@ -267,12 +260,17 @@ fn leave(
     state: State,
     instruction: &Instruction,
 ) -> Result<State, RejectionFault>
-    requires { IsInstruction instruction.now.kind }
     ensures { EvaluatesTo (after (arg_value given.now.args.now) (value_in given.now.outer.now) state instruction.now.kind) (left_due (arg_value given.now.args.now) state instruction.now.kind) (left_fault (arg_value given.now.args.now) state instruction.now.kind) instruction.now.line result }
 {
     match instruction.kind() {
         InstructionKind::Arg { arguments } => {
-            declare(alloc, given, state, instruction.line(), arguments.as_slice())
+            declare(
+                alloc,
+                given,
+                state,
+                instruction.line(),
+                arguments.as_slice(),
+            )
         }
         InstructionKind::Env { assignments } => {
             set_variables(alloc, state, instruction.line(), assignments.as_slice())
@@ -337,7 +335,6 @@ pub(crate) fn evaluate_instruction(
     instruction: Instruction,
     origins: Items<Origin>,
 ) -> Result<Done, RejectionFault>
-    requires { IsInstruction instruction.kind }
     ensures { IsDone (arg_value given.now.args.now) (value_in given.now.outer.now) state instruction.kind origins instruction.line result }
 {
     match leave(alloc, given, state, &instruction) {

@@ -1,10 +1,7 @@
 ghost use Rattle.std.specs.Prelude.{IfOk, ◌≡◌, ◌++◌, length, nat_lt};
-ghost use Rattle.std.specs.List.{All};
 ghost use Rattle.std.specs.FinMap.{get as arg_value};
 ghost use Rattle.plain.specs.Limits.{most_images};
-ghost use Rattle.instructions.specs.Instruction.{IsInstruction};
 ghost use Rattle.scopes.specs.Scope.{value_in};
-ghost use Rattle.stages.specs.declared.stage.ResolvedInstruction.{ResolvedInstruction as Resolved};
 ghost use Rattle.evaluation.specs.Images.{with_origins};
 ghost use Rattle.evaluation.specs.PrivateRefusals.{many_refused, reason_with, fault_with};
 ghost use Rattle.evaluation.specs.Stages.{step_of};
@@ -176,7 +173,6 @@ fn evaluate_named(
     progress: Progress,
     resolved: ResolvedInstruction,
 ) -> Result<Progress, RejectionFault>
-    requires { IsInstruction resolved.instruction.kind }
     ensures { IsStepped (arg_value given.now.args.now) (value_in given.now.outer.now) progress.state resolved.instruction.kind resolved.origins resolved.instruction.line progress.steps progress.names result }
 {
     let Progress {
@@ -207,7 +203,6 @@ fn evaluate_next(
     progress: Progress,
     resolved: ResolvedInstruction,
 ) -> Result<Progress, RejectionFault>
-    requires { IsInstruction resolved.instruction.kind }
     ensures { IsNext (arg_value given.now.args.now) (value_in given.now.outer.now) progress resolved result }
 {
     match name_line_images(alloc, progress, resolved.origins.as_slice()) {
@@ -226,7 +221,6 @@ pub(crate) fn evaluate_instructions(
     progress: Progress,
     instructions: Vec<ResolvedInstruction>,
 ) -> Result<Progress, RejectionFault>
-    requires { All (λ (r : Resolved). IsInstruction r.instruction.kind) instructions.items }
     ensures { AreNext (arg_value given.now.args.now) (value_in given.now.outer.now) progress instructions.items result }
 {
     let mut progress = progress;

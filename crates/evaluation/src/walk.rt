@@ -1,13 +1,8 @@
 ghost use Rattle.std.specs.Prelude.{◌≡◌, ◌∷◌, ◌++◌, [], Some as SomeOf, IfOk};
-ghost use Rattle.std.specs.List.{All};
 ghost use Rattle.std.specs.FinMap.{get as arg_value};
 ghost use Rattle.plain.specs.Marks.{is_marked};
-ghost use Rattle.instructions.specs.Instruction.{IsInstruction};
-ghost use Rattle.stages.specs.declared.stage.ResolvedInstruction.{ResolvedInstruction as Resolved};
 ghost use Rattle.scopes.specs.Scope.{value_in};
 ghost use Rattle.evaluation.specs.Stages.{with_none};
-ghost use Rattle.evaluation.specs.PrivateNames.{AreWhole};
-ghost use Rattle.evaluation.specs.PrivateStage.{AreNext};
 ghost use Rattle.evaluation.specs.PrivateKept.{is_wanted, state_if, AreKept};
 ghost use Rattle.evaluation.specs.PrivateWalk.{AreFew, AreNamed, IsEnded, IsWalk, IsOpenedAdded, IsStageAdded, IsNextStage, AreStages};
 
@@ -73,7 +68,6 @@ pub(crate) fn evaluate_stage(
     base: &Origin,
     instructions: Vec<ResolvedInstruction>,
 ) -> Result<Progress, RejectionFault>
-    requires { All (λ (r : Resolved). IsInstruction r.instruction.kind) instructions.items }
     ensures { IsEnded (arg_value given.now.args.now) (value_in given.now.outer.now) state names line base.now instructions.items result }
 {
     match name_base(alloc, names, base, line) {
@@ -199,7 +193,6 @@ fn evaluate_opened(
     opened: Opened,
     stage: ResolvedStage,
 ) -> Result<Walk, RejectionFault>
-    requires { AreWhole stage }
     ensures { IsOpenedAdded (arg_value given.now.args.now) (value_in given.now.outer.now) (is_wanted users.now) opened stage result }
 {
     let Opened { walk, state } = opened;
@@ -244,7 +237,6 @@ fn evaluate_needed_stage(
     walk: Walk,
     stage: ResolvedStage,
 ) -> Result<Walk, RejectionFault>
-    requires { AreWhole stage }
     ensures { IsStageAdded (arg_value given.now.args.now) (value_in given.now.outer.now) given.now.images.now (is_wanted users.now) walk stage result }
 {
     match open(alloc, given.keys, given.images, users, walk, &stage.base) {
@@ -296,7 +288,6 @@ fn evaluate_next_stage(
     walk: Walk,
     stage: ResolvedStage,
 ) -> Result<Walk, RejectionFault>
-    requires { AreWhole stage }
     ensures { IsNextStage (arg_value given.now.args.now) (value_in given.now.outer.now) given.now.images.now needed.now (is_wanted users.now) walk stage result }
 {
     if is_marked(needed, walk.rows.len()) {
@@ -317,7 +308,6 @@ fn evaluate_in_turn(
     users: &Users,
     stages: Vec<ResolvedStage>,
 ) -> Result<Walk, RejectionFault>
-    requires { All AreWhole stages.items }
     ensures { AreStages (arg_value given.now.args.now) (value_in given.now.outer.now) given.now.images.now needed.now (is_wanted users.now) stages.items result }
 {
     let mut walk = Walk {
@@ -343,7 +333,6 @@ pub(crate) fn evaluate_stages(
     target: u32,
     stages: Vec<ResolvedStage>,
 ) -> Result<Walk, RejectionFault>
-    requires { All AreWhole stages.items }
     ensures { AreKept (arg_value given.now.args.now) (value_in given.now.outer.now) given.now.images.now needed.now target stages.items result }
 {
     match Users::of(alloc, needed, stages.as_slice(), target) {

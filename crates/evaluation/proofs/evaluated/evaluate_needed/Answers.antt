@@ -1,11 +1,8 @@
 use Rattle.std.proofs.Common.{◌∙◌}
 use Rattle.std.specs.FinMap.{get}
-use Rattle.evaluation.proofs.EvaluatedFacts.{all_whole, answers_reported, answers_made}
+use Rattle.evaluation.proofs.EvaluatedFacts.{answers_reported, answers_made}
 use Rattle.evaluation.proofs.WholeFacts.{answers_whole, whole_none}
 use Rattle.evaluation.proofs.evaluated.evaluate_needed.Goals as goal
-
-pub evaluate_stages-requires : goal.evaluate_stages-requires
-evaluate_stages-requires c = all_whole c.args.table _ c.into_parts-outer.ensures.whole (c.into_vec.ensures ∙ c.into_parts-outer.ensures.stages)
 
 pub returns-in-Ok-clause-answers : goal.returns-in-Ok-clause-answers
 returns-in-Ok-clause-answers c =

@@ -1,15 +1,9 @@
 use Rattle.std.proofs.Common.{sym, ◌∙◌}
-use Rattle.evaluation.specs.PrivateNames.{AreWhole}
-use Rattle.evaluation.proofs.JudgingFacts.{judged_first, judged_more, judged_none, judged_all, judged_is}
+use Rattle.evaluation.proofs.JudgingFacts.{judged_first, judged_more, judged_none, judged_all}
 use Rattle.evaluation.proofs.faults.judge_in_turn.Goals as goal
 
 pub loop-stage-init : goal.loop-stage-init
 loop-stage-init c = judged_first _ _ _ _ _ _ _ (cc)
-
-pub judge_stage-requires : goal.judge_stage-requires
-judge_stage-requires c =
-    judged_is AreWhole _ _ _ _ _ _ _ _ _ c.in-Some.stage _ c.loop-stage.invariant c.in-Some.ensures.steps.0
-    c.into_iter-stage-iterator.ensures.into_iter_gives.0 c.requires
 
 pub loop-stage-preserved : goal.loop-stage-preserved
 loop-stage-preserved c = judged_more _ _ _ _ _ _ _ _ c.in-Some.stage _ c.in-Ok.more c.loop-stage.invariant c.in-Some.ensures.steps.0 c.in-Ok.ensures

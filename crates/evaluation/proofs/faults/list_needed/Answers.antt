@@ -1,11 +1,7 @@
 use Rattle.std.specs.FinMap.{get}
 use Rattle.std.proofs.Common.{◌∙◌}
-use Rattle.evaluation.proofs.EvaluatedFacts.{all_whole}
 use Rattle.evaluation.proofs.JudgingFacts.{table_judged}
 use Rattle.evaluation.proofs.faults.list_needed.Goals as goal
-
-pub judge_stages-requires : goal.judge_stages-requires
-judge_stages-requires c = all_whole c.args.table _ c.into_parts-outer.ensures.whole (c.into_vec.ensures ∙ c.into_parts-outer.ensures.stages)
 
 pub returns : goal.returns
 returns c =

@@ -1,6 +1,5 @@
-use Rattle.std.proofs.Common.{List, ap, sym, subst, ◌∙◌}
+use Rattle.std.proofs.Common.{List, sym, subst}
 use Rattle.std.specs.FinMap.{get}
-use Rattle.instructions.specs.Instruction.{IsInstruction}
 use Rattle.instructions.specs.declared.instruction.Assignment.{Assignment}
 use Rattle.instructions.specs.declared.instruction.InstructionKind.{InstructionKind}
 use Rattle.instructions.specs.declared.instruction.InstructionKind.TheVariants.{Env}
@@ -10,9 +9,6 @@ use Rattle.evaluation.specs.Instruction.{after}
 use Rattle.evaluation.specs.PrivateRefusals.{EvaluatesTo}
 use Rattle.evaluation.specs.PrivateInstruction.{variables_set, left_due, left_fault}
 use Rattle.evaluation.proofs.instruction.leave.Goals as goal
-
-pub set_variables-requires : goal.set_variables-requires
-set_variables-requires c = subst IsInstruction (c.in-Env.is ∙ ap Env (sym c.as_slice-in-Env.ensures)) c.requires
 
 pub returns-in-Env : goal.returns-in-Env
 returns-in-Env c =

@@ -1,16 +1,9 @@
 use Rattle.std.proofs.Common.{sym, ◌∙◌}
-use Rattle.instructions.specs.Instruction.{IsInstruction}
-use Rattle.stages.specs.declared.stage.ResolvedInstruction.{ResolvedInstruction}
-use Rattle.evaluation.proofs.StepFacts.{next_first, next_more, next_refused, next_all, next_is}
+use Rattle.evaluation.proofs.StepFacts.{next_first, next_more, next_refused, next_all}
 use Rattle.evaluation.proofs.stage.evaluate_instructions.Goals as goal
 
 pub loop-resolved-init : goal.loop-resolved-init
 loop-resolved-init c = next_first _ _ _ _
-
-pub evaluate_next-requires : goal.evaluate_next-requires
-evaluate_next-requires c =
-    next_is (λ (r : ResolvedInstruction). IsInstruction r.instruction.kind) _ _ _ _ _ _ _ c.in-Some.resolved _ c.loop-resolved.invariant c.in-Some.ensures.steps.0
-    c.into_iter-resolved-iterator.ensures.into_iter_gives.0 c.requires
 
 pub loop-resolved-preserved : goal.loop-resolved-preserved
 loop-resolved-preserved c = next_more _ _ _ _ _ _ c.in-Some.resolved _ c.in-Ok.more c.loop-resolved.invariant c.in-Some.ensures.steps.0 c.in-Ok.ensures

@@ -1,15 +1,9 @@
 use Rattle.std.proofs.Common.{sym, ◌∙◌}
-use Rattle.evaluation.specs.PrivateNames.{AreWhole}
-use Rattle.evaluation.proofs.WalkFacts.{stages_first, stages_more, stages_refused, stages_all, stage_is}
+use Rattle.evaluation.proofs.WalkFacts.{stages_first, stages_more, stages_refused, stages_all}
 use Rattle.evaluation.proofs.walk.evaluate_in_turn.Goals as goal
 
 pub loop-stage-init : goal.loop-stage-init
 loop-stage-init c = stages_first _ _ _ _ _ _ _ (cc)
-
-pub evaluate_next_stage-requires : goal.evaluate_next_stage-requires
-evaluate_next_stage-requires c =
-    stage_is AreWhole _ _ _ _ _ _ _ _ _ c.in-Some.stage _ c.loop-stage.invariant c.in-Some.ensures.steps.0
-    c.into_iter-stage-iterator.ensures.into_iter_gives.0 c.requires
 
 pub loop-stage-preserved : goal.loop-stage-preserved
 loop-stage-preserved c = stages_more _ _ _ _ _ _ _ _ c.in-Some.stage _ c.in-Ok.more c.loop-stage.invariant c.in-Some.ensures.steps.0 c.in-Ok.ensures
