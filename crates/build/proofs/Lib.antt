@@ -4,6 +4,7 @@ mod AskFacts
 mod BoardFacts
 mod BuildingFacts
 mod ExistFacts
+mod LoweredFacts
 mod OneDrawingFacts
 mod OneLinesFacts
 mod OnePlanFacts

@@ -3,6 +3,7 @@ pub mod Ends
 pub mod Graph
 pub mod Interleaving
 pub mod Lowerable
+pub mod Lowered
 pub mod Meaning
 pub mod PrivateAsking
 pub mod PrivateShowing

@@ -7,9 +7,9 @@ ghost use Rattle.build.specs.Lowerable.{IsLowerable};
 ghost use Rattle.build.specs.Meaning.{Tells};
 ghost use Rattle.build.specs.Telling.{status_of, text_of};
 
+use crate::lowered::lower_evaluated;
 use evaluation::Evaluated;
 use imageconfig::Config;
-use lowering::lower_program;
 use plain::Memory;
 use plans::Plan;
 use rewrite::{is_flat, shrink};
@@ -25,13 +25,7 @@ pub fn plan_of(alloc: Global, evaluated: Evaluated) -> Result<Plan<Config>, Memo
         → IsSolution (problem_of out plan) solution → Tells out (OkOf evaluated) (status_of solution) (text_of plan.config solution)) }
     ensures needed { IfOk result (λ plan. (out : Out) → NeedsAll (problem_of out plan)) }
 {
-    let Evaluated {
-        rows,
-        target,
-        config,
-        sources,
-    } = evaluated;
-    let plan = lower_program(alloc, rows, target, config, sources)?;
+    let plan = lower_evaluated(alloc, evaluated)?;
     // The target needs every vertex of what was lowered: without links there is nothing to shrink, and to shrink is to build the graph again.
     if is_flat(plan.graph().vertices()) {
         return Ok(plan);
