@@ -63,7 +63,7 @@ func called(ctx context.Context, bundle []byte, words ...string) ([]byte, int, e
 	if (status == faulty || status == refusing) && said.Len() == 0 {
 		return out.Bytes(), status, nil
 	}
-	return nil, status, errors.Errorf("dfsolve %s: %s", words[0], strings.TrimSpace(said.String()+" "+err.Error()))
+	return nil, status, errors.Errorf("dfsolve %s: %s (%s)", words[0], strings.TrimSpace(said.String()), err)
 }
 
 // written is what dfsolve prints for a bundle that it doesn't refuse. If it does, the faults say why.
@@ -115,15 +115,14 @@ func (b *build) refused(faults []fault) error {
 
 // sentence is one fault for a person. The place comes first, since some clients show no lines.
 func (b *build) sentence(f fault) string {
-	place := f.File
-	if source := b.sourceOf(f); source != nil {
-		place = source.name
+	source := b.sourceOf(f)
+	if source == nil {
+		// what helps whoever writes bundles helps nobody here
+		return fmt.Sprintf("%s: dfsolve doesn't take what this front end gives it: %s", f.Code, f.Place)
 	}
+	place := source.name
 	if f.Line > 0 {
 		place = fmt.Sprintf("%s:%d", place, f.Line)
-	}
-	if f.Place != "" {
-		f.Message += ": " + f.Place
 	}
 	return fmt.Sprintf("%s: %s: %s%s (%s)", place, f.Code, f.Message, theirs(f), f.Remedy)
 }

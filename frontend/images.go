@@ -42,18 +42,8 @@ func (v *variant) findImages(ctx context.Context) (*images, error) {
 	if err := v.nameImages(ctx); err != nil {
 		return nil, err
 	}
-	// with the configuration of an image, more may be known to be needed
-	for len(v.images.stubs) > 0 {
-		needed, err := v.needed(ctx)
-		if err != nil {
-			return nil, err
-		}
-		if len(needed) == 0 {
-			break
-		}
-		if err := v.resolveAll(ctx, needed); err != nil {
-			return nil, err
-		}
+	if err := v.resolveNeeded(ctx); err != nil {
+		return nil, err
 	}
 	bundle, err := v.bundle(nil)
 	if err != nil {
@@ -66,7 +56,22 @@ func (v *variant) findImages(ctx context.Context) (*images, error) {
 	return v.images, err
 }
 
-// needed are the images without a configuration that the graph of a build has. If there is no graph without their configurations, it is all of them.
+// resolveNeeded asks for the images that are needed. With the configuration of one, more may be known to be.
+func (v *variant) resolveNeeded(ctx context.Context) error {
+	for len(v.images.stubs) > 0 {
+		needed, err := v.needed(ctx)
+		if err != nil || len(needed) == 0 {
+			return err
+		}
+		if err := v.resolveAll(ctx, needed); err != nil {
+			return err
+		}
+	}
+	return nil
+}
+
+// needed are the images without a configuration that the graph of a build has. If there is no graph without their configurations, it is all
+// of them.
 func (v *variant) needed(ctx context.Context) ([]string, error) {
 	bundle, err := v.bundle(nil)
 	if err != nil {

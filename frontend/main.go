@@ -1,14 +1,15 @@
 // Command frontend is a front end of BuildKit around the program dfsolve.
 //
-// BuildKit runs it in a container of its image, for a Dockerfile that begins with `# syntax=HOST/dfsolve:1`, for the build argument BUILDKIT_SYNTAX, or for
-// `--frontend gateway.v0 --opt source=HOST/dfsolve:1`. It asks BuildKit for the Dockerfile, the ignore file, the names of the context and the
-// configurations of images, has dfsolve write the definition and the configuration, and has BuildKit solve that.
+// BuildKit runs it in a container of its image, for a Dockerfile that begins with `# syntax=HOST/dfsolve:1`, for the build argument
+// BUILDKIT_SYNTAX, or for `--frontend gateway.v0 --opt source=HOST/dfsolve:1`. It asks BuildKit for the Dockerfile, the ignore file, the
+// names of the context and the configurations of images, has dfsolve write the definition and the configuration, and has BuildKit solve
+// that.
 //
-// It decides nothing about the language, and nothing of it is proved. What a Dockerfile means, which faults it has, and what the definition says is
-// dfsolve's. What isn't there yet in dfsolve is done here in its place: all .
+// It decides nothing about the language, and nothing of it is proved. What a Dockerfile means, which faults it has, and what the definition
+// says is dfsolve's. What isn't there yet in dfsolve is done here in its place: all .
 //
-// It takes no context from elsewhere (git, http, an archive), no named contexts and no inputs. These, and options that it doesn't know, are refused by their
-// names: nothing is ignored. options.go has the lists.
+// It takes no context from elsewhere (git, http, an archive), no named contexts and no inputs. These, and options that it doesn't know, are
+// refused by their names: nothing is ignored. options.go has the lists.
 //
 // Standard input and output are the connection to BuildKit, and standard error is the daemon's log: nothing may be printed.
 package main

@@ -28,6 +28,8 @@ const (
 	width = 16
 	// how many paths dfsolve is asked about by one command line
 	asked = 1000
+
+	isNeither = "the context has %q, which is neither a file nor a folder: take it away, or have the ignore file leave it out"
 )
 
 // follows is what a definition names of the context.
@@ -108,8 +110,8 @@ func (b *build) names(ctx context.Context, variants []*variant) ([]entry, error)
 // plain are the lines of an ignore file that mean one thing by any rules.
 var plain = regexp.MustCompile(`^/?(\*\*/)?[A-Za-z0-9_@+.-]+(/[A-Za-z0-9_@+.-]+)*/?$`)
 
-// below are patterns for what lies in folders that the ignore file leaves out. dfsolve leaves out a folder whole, so their names are enough, and what lies in
-// them need not travel. The patterns only save work: names that are listed in excess do no harm.
+// below are patterns for what lies in folders that the ignore file leaves out. dfsolve leaves out a folder whole, so their names are
+// enough, and what lies in them need not travel. The patterns only save work: names that are listed in excess do no harm.
 func below(ignore *source) []string {
 	list := []string{}
 	if ignore == nil || strings.Contains(string(ignore.data), "!") {
@@ -123,7 +125,8 @@ func below(ignore *source) []string {
 	return list
 }
 
-// told lists by a command, of this program's own image. What it writes is read in pieces, so it may be larger than a message. BuildKit 0.8 gives no image.
+// told lists by a command, of this program's own image. What it writes is read in pieces, so it may be larger than a message. BuildKit 0.8
+// gives no image.
 func (b *build) told(ctx context.Context, context llb.State) ([]entry, bool, error) {
 	c, is := b.c.(interface{ CurrentFrontend() (*llb.State, error) })
 	if !is {
@@ -224,7 +227,8 @@ func (b *build) walked(ctx context.Context, context llb.State) ([]entry, error) 
 	return names, group.Wait()
 }
 
-// withoutLinks refuses what is neither a file nor a folder, unless the ignore file leaves it out: then its name is enough, so that BuildKit leaves it out too.
+// withoutLinks refuses what is neither a file nor a folder, unless the ignore file leaves it out: then its name is enough, so that BuildKit
+// leaves it out too.
 func (b *build) withoutLinks(ctx context.Context, v *variant, names []entry) ([]entry, error) {
 	var links []string
 	for n := range names {
@@ -249,7 +253,7 @@ func (b *build) withoutLinks(ctx context.Context, v *variant, names []entry) ([]
 		for n, link := range part {
 			// (a line's end in a name makes more lines than names)
 			if len(lines) != len(part)+1 || !strings.HasPrefix(lines[n], "left out\t") {
-				return nil, errors.Errorf("the context has %q, which is neither a file nor a folder: take it away, or have the ignore file leave it out", link)
+				return nil, errors.Errorf(isNeither, link)
 			}
 		}
 	}

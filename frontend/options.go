@@ -68,7 +68,8 @@ var taken = map[string]func(*options, string) error{
 	"cgroup-parent":      func(o *options, v string) error { o.commands.cgroup = v; return nil },
 }
 
-// passed are options that the engine or the client reads itself. A name that ends with a colon stands for all that begin with it, here and below.
+// passed are options that the engine or the client reads itself. A name that ends with a colon stands for all that begin with it, here and
+// below.
 var passed = map[string]string{
 	"source":        "the image of this front end, which the engine runs",
 	"cmdline":       "the words after `# syntax=`, by which the engine runs it",
@@ -79,7 +80,7 @@ var passed = map[string]string{
 
 // refused are options that ask for what this front end hasn't got. An empty value asks for nothing.
 var refused = map[string]string{
-	"context":                           "a context from elsewhere isn't taken: give the build a folder, or the files that the place would have given",
+	"context":                           "a context from elsewhere isn't taken: give the build a folder",
 	"contextsubdir":                     "a folder in a context from elsewhere isn't taken: give the build that folder",
 	"contextkey":                        "the context is called `context`, and no other name is known",
 	"context:":                          "named contexts aren't taken: name the image in the Dockerfile, or copy the folder into the context",
@@ -280,7 +281,8 @@ func (o *options) takeMemory(value string) (err error) {
 	return err
 }
 
-// takeArguments reads the build arguments that mean something beside the Dockerfile: the time of the image, and proxies, whose names know no case.
+// takeArguments reads the build arguments that mean something beside the Dockerfile: the time of the image, and proxies, whose names know
+// no case.
 func (o *options) takeArguments() error {
 	if v := o.args["SOURCE_DATE_EPOCH"]; v != "" {
 		seconds, err := strconv.ParseInt(v, 10, 64)
@@ -291,8 +293,8 @@ func (o *options) takeArguments() error {
 		o.epoch = &epoch
 	}
 	proxy := pb.ProxyEnv{}
-	places := map[string]*string{"http_proxy": &proxy.HttpProxy, "https_proxy": &proxy.HttpsProxy, "ftp_proxy": &proxy.FtpProxy, "no_proxy": &proxy.NoProxy,
-		"all_proxy": &proxy.AllProxy}
+	places := map[string]*string{"http_proxy": &proxy.HttpProxy, "https_proxy": &proxy.HttpsProxy, "ftp_proxy": &proxy.FtpProxy,
+		"no_proxy": &proxy.NoProxy, "all_proxy": &proxy.AllProxy}
 	for _, name := range sorted(o.args) {
 		if place := places[strings.ToLower(name)]; place != nil {
 			*place = o.args[name]

@@ -15,9 +15,10 @@ import (
 	"github.com/pkg/errors"
 )
 
-// Here a Dockerfile is read by BuildKit's own parser, for what standin.go has to know of it until dfsolve says it: which images its stages name, where an
-// instruction stands, and which instructions made an image. What the file means is dfsolve's alone, and so is what is wrong with it: what isn't understood
-// here is passed over. All of this file goes with `dfsolve images`, `Source` of `dfsolve llb`, and `dfsolve config --for-engine`.
+// Here a Dockerfile is read by BuildKit's own parser, for what standin.go has to know of it until dfsolve says it: which images its stages
+// name, where an instruction stands, and which instructions made an image. What the file means is dfsolve's alone, and so is what is wrong
+// with it: what isn't understood here is passed over. All of this file goes with `dfsolve images`, `Source` of `dfsolve llb`, and `dfsolve
+// config --for-engine`.
 
 // reading is a Dockerfile as BuildKit's parser has it.
 type reading struct {
@@ -95,8 +96,8 @@ func (v *variant) declared(lex *shell.Lex, node *parser.Node, env []string) ([]s
 	return env, nil
 }
 
-// imagesAt are the images that the instruction at a line may name, and an error if one is a stage that isn't above: dfsolve would take an image of that
-// name, and such an image would be a surprise.
+// imagesAt are the images that the instruction at a line may name, and an error if one is a stage that isn't above: dfsolve would take an
+// image of that name, and such an image would be a surprise.
 func (r *reading) imagesAt(line int) ([]string, error) {
 	for _, s := range r.stages {
 		for _, node := range s.steps {
@@ -152,7 +153,8 @@ func (r *reading) named(name string) *stage {
 	return nil
 }
 
-// at is the stage of a name and the instruction that is this step of so many. An image that a stage begins with is a step before its others.
+// at is the stage of a name and the instruction that is this step of so many. An image that a stage begins with is a step before its
+// others.
 func (r *reading) at(name string, step, count int) (*stage, *parser.Node) {
 	for n := range r.stages {
 		s := &r.stages[n]
@@ -174,7 +176,7 @@ func (r *reading) at(name string, step, count int) (*stage, *parser.Node) {
 }
 
 // history is an entry for each instruction that made the target, those of its base image first.
-func (r *reading) history(target string, epoch *time.Time, base func(string) []json.RawMessage) []interface{} {
+func (r *reading) history(target string, epoch *time.Time, images *images) []interface{} {
 	s := r.named(target)
 	if s == nil {
 		s = &r.stages[len(r.stages)-1]
@@ -184,7 +186,7 @@ func (r *reading) history(target string, epoch *time.Time, base func(string) []j
 		chain = append([]*stage{below}, chain...)
 	}
 	entries := []interface{}{}
-	for _, it := range base(chain[0].base) {
+	for _, it := range historyOf(images.found[chain[0].base].Config) {
 		entries = append(entries, it)
 	}
 	for _, it := range chain {

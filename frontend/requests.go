@@ -18,7 +18,8 @@ import (
 
 // described lists the requests that are answered in place of a build.
 func described() (*client.Result, error) {
-	list := []subrequests.Request{outline.SubrequestsOutlineDefinition, targets.SubrequestsTargetsDefinition, subrequests.SubrequestsDescribeDefinition}
+	own := subrequests.SubrequestsDescribeDefinition
+	list := []subrequests.Request{outline.SubrequestsOutlineDefinition, targets.SubrequestsTargetsDefinition, own}
 	all, err := json.MarshalIndent(list, "", "  ")
 	if err != nil {
 		return nil, err
@@ -28,7 +29,7 @@ func described() (*client.Result, error) {
 		return nil, err
 	}
 	result := client.NewResult()
-	result.Metadata = map[string][]byte{"result.json": all, "result.txt": text.Bytes(), "version": []byte(subrequests.SubrequestsDescribeDefinition.Version)}
+	result.Metadata = map[string][]byte{"result.json": all, "result.txt": text.Bytes(), "version": []byte(own.Version)}
 	return result, nil
 }
 

@@ -22,7 +22,8 @@ import (
 
 // ---- which images are named: `dfsolve images` takes the place of this part ----
 
-// nameImages puts a stub into the bundle for each image that a stage names. dfsolve shows one missing image of a line at a time, so it is asked again.
+// nameImages puts a stub into the bundle for each image that a stage names. dfsolve shows one missing image of a line at a time, so it is
+// asked again.
 func (v *variant) nameImages(ctx context.Context) error {
 	for {
 		bundle, err := v.bundle(nil)
@@ -103,9 +104,16 @@ func (v *variant) warnOfBase(ctx context.Context, name string, config []byte) {
 	if json.Unmarshal(config, &made) != nil {
 		return // dfsolve says what is wrong with it
 	}
-	for key, is := range map[string]bool{"OnBuild": len(made.Config.OnBuild) > 0, "Shell": len(made.Config.Shell) > 0, "Healthcheck": made.Config.Healthcheck != nil} {
-		if is {
-			v.warn(ctx, "the image "+name+" has "+key+", which does nothing here: write it again in the Dockerfile", v.images.lines[name].ranges())
+	for _, it := range []struct {
+		key string
+		is  bool
+	}{
+		{"OnBuild", len(made.Config.OnBuild) > 0},
+		{"Shell", len(made.Config.Shell) > 0},
+		{"Healthcheck", made.Config.Healthcheck != nil},
+	} {
+		if it.is {
+			v.warn(ctx, "the image "+name+" has "+it.key+", which does nothing here: write it again in the Dockerfile", v.images.lines[name].ranges())
 		}
 	}
 }
@@ -223,7 +231,8 @@ func (v *variant) complementCommand(exec *pb.ExecOp, caps map[apicaps.CapID]bool
 // title is what progress calls an operation that an instruction makes: its stage, if there are several, and the number of its step.
 var title = regexp.MustCompile(`^\[(?:(\S+) )? *(\d+)/(\d+)\] `)
 
-// place says of each operation that has a title where its instruction stands, so that BuildKit shows these lines if it fails, and whether it is made anew.
+// place says of each operation that has a title where its instruction stands, so that BuildKit shows these lines if it fails, and whether
+// it is made anew.
 func (v *variant) place(ctx context.Context, definition *pb.Definition) error {
 	file, err := v.reading()
 	if err != nil {
@@ -234,7 +243,7 @@ func (v *variant) place(ctx context.Context, definition *pb.Definition) error {
 	}
 	for _, name := range v.options.fresh {
 		if file.named(name) == nil {
-			v.warn(ctx, "the option no-cache names the stage "+name+", which the Dockerfile hasn't got", []*pb.Range{{Start: pb.Position{Line: 1}, End: pb.Position{Line: 1}}})
+			v.warn(ctx, "the option no-cache names the stage "+name+", which the Dockerfile hasn't got", fault{Line: 1}.ranges())
 		}
 	}
 	definition.Source = &pb.Source{Locations: map[string]*pb.Locations{}, Infos: []*pb.SourceInfo{v.file.info()}}
@@ -274,7 +283,8 @@ func (v *variant) isFresh(stage string) bool {
 
 // ---- what an image has for the engine: `dfsolve config --for-engine --platform P --label N=V` takes the place of this part ----
 
-// configuration puts in the platform, labels and the time, and what BuildKit's own front end gives an image without a PATH, and `scratch` without a directory.
+// configuration puts in the platform, labels and the time, and what BuildKit's own front end gives an image without a PATH, and `scratch`
+// without a directory.
 func (v *variant) configuration(ctx context.Context, written []byte) ([]byte, error) {
 	made, inner, labels := map[string]interface{}{}, map[string]interface{}{}, map[string]interface{}{}
 	if err := json.Unmarshal(written, &made); err != nil {
@@ -313,12 +323,13 @@ func (v *variant) configuration(ctx context.Context, written []byte) ([]byte, er
 	made["config"] = inner
 	// (without a history the exporter drops that of the base)
 	if file, err := v.reading(); err == nil {
-		made["history"] = file.history(v.options.target, v.options.epoch, func(base string) []json.RawMessage { return historyOf(v.images.found[base].Config) })
+		made["history"] = file.history(v.options.target, v.options.epoch, v.images)
 	}
 	return json.Marshal(made)
 }
 
-// isFromScratch finds out whether no image is below the target: each gets a label that no other build has, and the target then has it or hasn't.
+// isFromScratch finds out whether no image is below the target: each gets a label that no other build has, and the target then has it or
+// hasn't.
 func (v *variant) isFromScratch(ctx context.Context) (bool, error) {
 	marked := *v
 	marked.images = &images{found: map[string]image{}}

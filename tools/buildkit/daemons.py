@@ -87,14 +87,26 @@ class Registry(http.server.ThreadingHTTPServer):
         return f"127.0.0.1:{self.server_port}"
 
     def put(self, name, layer, fields):
+        self.put_configured(name, layer, json.dumps(config_of(layer, fields)).encode())
+
+    def put_configured(self, name, layer, config):
+        """An image of one layer with just these bytes as its configuration."""
         manifest = {"schemaVersion": 2, "mediaType": "application/vnd.oci.image.manifest.v1+json"}
-        for part, kind, held in (("config", "config.v1+json", json.dumps(config_of(layer, fields)).encode()), ("layer", "layer.v1.tar", layer)):
+        for part, kind, held in (("config", "config.v1+json", config), ("layer", "layer.v1.tar", layer)):
             kind = f"application/vnd.oci.image.{kind}"
             self.held[digest_of(held)] = kind, held
             row = {"mediaType": kind, "digest": digest_of(held), "size": len(held)}
             manifest |= {"layers": [row]} if part == "layer" else {part: row}
         held = json.dumps(manifest).encode()
         self.held[digest_of(held)] = self.held[name] = manifest["mediaType"], held
+
+    def put_layout(self, name, path):
+        """The image of an OCI layout in a tar file."""
+        with tarfile.open(path) as packed:
+            blobs = [packed.extractfile(member).read() for member in packed if member.isreg() and member.name.startswith("blobs/")]
+            (row,) = json.load(packed.extractfile("index.json"))["manifests"]
+        self.held |= {digest_of(held): ("application/octet-stream", held) for held in blobs}
+        self.held[row["digest"]] = self.held[name] = row["mediaType"], self.held[row["digest"]][1]
 
 
 class Answer(http.server.BaseHTTPRequestHandler):
