@@ -10,8 +10,6 @@ import (
 	"github.com/containerd/containerd/platforms"
 	"github.com/distribution/reference"
 	"github.com/moby/buildkit/client/llb/sourceresolver"
-	"github.com/moby/buildkit/frontend/gateway/client"
-	"github.com/moby/buildkit/solver/pb"
 	"github.com/pkg/errors"
 	"golang.org/x/sync/errgroup"
 )
@@ -162,9 +160,4 @@ func listed(config []byte) ([]byte, error) {
 		return nil, err
 	}
 	return json.Marshal(made)
-}
-
-// warn tells the client of something at these lines of the Dockerfile. Engines of old know no warnings, and a build doesn't fail for one.
-func (b *build) warn(ctx context.Context, text string, ranges []*pb.Range) {
-	_ = b.c.Warn(ctx, b.file.head, text, client.WarnOpts{Level: 1, SourceInfo: b.file.info(), Range: ranges})
 }

@@ -6,7 +6,8 @@
 // that.
 //
 // It decides nothing about the language, and nothing of it is proved. What a Dockerfile means, which faults it has, and what the definition
-// says is dfsolve's. What isn't there yet in dfsolve is done here in its place: all .
+// says is dfsolve's. What dfsolve hasn't got yet is done here in its place: all of that is in standin.go, reading.go and warnings.go, with
+// what will come for it.
 //
 // It takes no context from elsewhere (git, http, an archive), no named contexts and no inputs. These, and options that it doesn't know, are
 // refused by their names: nothing is ignored. options.go has the lists.
@@ -86,6 +87,7 @@ func solve(ctx context.Context, c client.Client) (*client.Result, error) {
 	if err := b.readIgnoreFile(ctx); err != nil {
 		return nil, err
 	}
+	b.warnOfFile(ctx)
 	variants, err := b.variants(ctx)
 	if err != nil {
 		return nil, err

@@ -48,6 +48,9 @@ type commands struct {
 	proxy    *pb.ProxyEnv
 }
 
+// Each option that docker 26.1.5, buildx 0.13.1 and buildctl 0.13.2 send of themselves is in one of these tables: that was read off their
+// sources.
+
 // taken are the options that this front end knows. Each reads its value.
 var taken = map[string]func(*options, string) error{
 	"requestid":          func(o *options, v string) error { o.request = v; return nil },
@@ -88,6 +91,7 @@ var refused = map[string]string{
 	"local-sessionid:":                  "a folder of another session isn't taken: give the build a folder",
 	"build-arg:BUILDKIT_CACHE_MOUNT_NS": "caches have no spaces of names: put the text into their `id`",
 	"build-arg:BUILDKIT_CONTEXT_KEEP_GIT_DIR": "a context from git isn't taken: give the build a folder",
+	"build-arg:BUILDKIT_DOCKERFILE_CHECK":     "its rules aren't known: run `dfsolve check`",
 	"build-arg:BUILDKIT_DISABLE_FILEOP":       "operations of files are always used",
 	"build-arg:BUILDKIT_SBOM_SCAN_CONTEXT":    "only the result is scanned",
 	"build-arg:BUILDKIT_SBOM_SCAN_STAGE":      "only the result is scanned",

@@ -65,6 +65,9 @@ func (v *variant) reading() (*reading, error) {
 			return nil, err
 		}
 	}
+	if len(r.stages) == 0 {
+		return nil, errors.New("the Dockerfile has no stage")
+	}
 	if len(r.stages) == 1 {
 		r.stages[0].name = "" // the only stage isn't named
 	}
@@ -127,7 +130,9 @@ func sources(node *parser.Node) ([]string, error) {
 	}
 	switch it := made.(type) {
 	case *instructions.CopyCommand:
-		return []string{it.From}, nil
+		if it.From != "" {
+			return []string{it.From}, nil
+		}
 	case *instructions.RunCommand:
 		if err := it.Expand(func(word string) (string, error) { return word, nil }); err != nil {
 			return nil, err
@@ -177,10 +182,7 @@ func (r *reading) at(name string, step, count int) (*stage, *parser.Node) {
 
 // history is an entry for each instruction that made the target, those of its base image first.
 func (r *reading) history(target string, epoch *time.Time, images *images) []interface{} {
-	s := r.named(target)
-	if s == nil {
-		s = &r.stages[len(r.stages)-1]
-	}
+	s := r.target(target)
 	chain := []*stage{s}
 	for below := r.above(s); below != nil; below = r.above(below) {
 		chain = append([]*stage{below}, chain...)
@@ -202,6 +204,17 @@ func (r *reading) history(target string, epoch *time.Time, images *images) []int
 		}
 	}
 	return entries
+}
+
+// target is the stage of a name or a number, the last one without.
+func (r *reading) target(name string) *stage {
+	if s := r.named(name); s != nil {
+		return s
+	}
+	if n, err := strconv.Atoi(name); err == nil && n >= 0 && n < len(r.stages) {
+		return &r.stages[n]
+	}
+	return &r.stages[len(r.stages)-1]
 }
 
 // above is the stage that another one begins with, or nil.

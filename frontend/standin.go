@@ -91,33 +91,6 @@ func (v *variant) arguments() map[string]string {
 	return found
 }
 
-// ---- what has another meaning here: warnings of `dfsolve check` take the place of this part ----
-
-// warnOfBase tells of what an image asks for and doesn't get.
-func (v *variant) warnOfBase(ctx context.Context, name string, config []byte) {
-	var made struct {
-		Config struct {
-			OnBuild, Shell []string
-			Healthcheck    *struct{ Test []string }
-		}
-	}
-	if json.Unmarshal(config, &made) != nil {
-		return // dfsolve says what is wrong with it
-	}
-	for _, it := range []struct {
-		key string
-		is  bool
-	}{
-		{"OnBuild", len(made.Config.OnBuild) > 0},
-		{"Shell", len(made.Config.Shell) > 0},
-		{"Healthcheck", made.Config.Healthcheck != nil},
-	} {
-		if it.is {
-			v.warn(ctx, "the image "+name+" has "+it.key+", which does nothing here: write it again in the Dockerfile", v.images.lines[name].ranges())
-		}
-	}
-}
-
 // ---- BuildKit's words for the same fault: a key of `check --json` takes the place of this part ----
 
 // words are BuildKit's for some faults, by the code, the word and the message that dfsolve has for them.
@@ -169,7 +142,7 @@ func (v *variant) complement(definition *pb.Definition) error {
 			}
 		}
 		if exec := op.GetExec(); exec != nil {
-			if err := v.complementCommand(exec, definition.Metadata[from].Caps); err != nil {
+			if err := v.complementCommand(exec, capsOf(definition, from)); err != nil {
 				return err
 			}
 		}
@@ -187,7 +160,17 @@ func (v *variant) complement(definition *pb.Definition) error {
 	return nil
 }
 
-// complementCommand leaves a command as it is if there is nothing to say: so one without options has one digest with any engine.
+// capsOf is what an engine has to be capable of to run an operation. It may be added to.
+func capsOf(definition *pb.Definition, at digest.Digest) map[apicaps.CapID]bool {
+	meta := definition.Metadata[at]
+	if meta.Caps == nil {
+		meta.Caps = map[apicaps.CapID]bool{}
+		definition.Metadata[at] = meta
+	}
+	return meta.Caps
+}
+
+// complementCommand says in a command what options say of it, if the engine knows that.
 func (v *variant) complementCommand(exec *pb.ExecOp, caps map[apicaps.CapID]bool) error {
 	asked := v.options.commands
 	add := func(is bool, cap apicaps.CapID, say func()) error {
@@ -239,7 +222,7 @@ func (v *variant) place(ctx context.Context, definition *pb.Definition) error {
 		if v.options.nothing || len(v.options.fresh) > 0 {
 			return errors.Wrap(err, "the option no-cache needs a Dockerfile that BuildKit's own parser takes")
 		}
-		return nil
+		return nil // no line is shown
 	}
 	for _, name := range v.options.fresh {
 		if file.named(name) == nil {
@@ -260,19 +243,17 @@ func (v *variant) place(ctx context.Context, definition *pb.Definition) error {
 		if node != nil {
 			definition.Source.Locations[at.String()] = &pb.Locations{Locations: []*pb.Location{{Ranges: rangesOf(node.Location())}}}
 		}
-		if s != nil && v.isFresh(s.named) {
+		if v.options.nothing || (s != nil && v.isFresh(s.named)) {
+			capsOf(definition, at)[pb.CapMetaIgnoreCache] = true
+			meta = definition.Metadata[at]
 			meta.IgnoreCache = true
-			meta.Caps[pb.CapMetaIgnoreCache] = true
+			definition.Metadata[at] = meta
 		}
-		definition.Metadata[at] = meta
 	}
 	return nil
 }
 
 func (v *variant) isFresh(stage string) bool {
-	if v.options.nothing {
-		return true
-	}
 	for _, name := range v.options.fresh {
 		if strings.EqualFold(name, stage) {
 			return true

@@ -8,15 +8,17 @@ import shutil
 import subprocess
 import tempfile
 
-from common import TOP
+from common import CRATES, PROVED, TOP
 from packages import NotRun, told
 
 # what the Dockerfile takes of the C library
 LIBRARIES = {"libc.so.6", "ld-linux-x86-64.so.2"}
+# the program that `./run` made: the proved one, else the other
+PROGRAM = PROVED if os.path.exists(PROVED) else f"{CRATES}/dfsolve/out/unproved/dfsolve"
 
 
-def compile_program(packages, to):
-    """Below BuildKit's source, where alone what it brings along is seen. The folder always has one name, since the program has it too."""
+def go(packages, verb, *words):
+    """Calls Go below BuildKit's source, where alone what it brings along is seen. The folder always has one name, since the program has it too."""
     home = packages.home("moby/buildkit")
     at = f"{home}/cmd/dfsolve-frontend"
     shutil.rmtree(at, ignore_errors=True)
@@ -24,8 +26,7 @@ def compile_program(packages, to):
     try:
         for name in glob.glob(f"{TOP}/frontend/*.go"):
             shutil.copy(name, at)
-        words = ["-trimpath", "-ldflags", "-s -w -buildid=", "-o", to, f"./cmd/{os.path.basename(at)}"]
-        packages.go("build", *words, path=f"{packages.folder}/theirs", cwd=home)
+        return packages.go(verb, *words, f"./cmd/{os.path.basename(at)}", path=f"{packages.folder}/theirs", cwd=home)
     finally:
         shutil.rmtree(at)
 
@@ -35,7 +36,7 @@ def put_folder(packages, program, folder):
     os.makedirs(f"{folder}/lib")
     shutil.copy(f"{TOP}/frontend/Dockerfile", folder)
     shutil.copy(program, f"{folder}/dfsolve")
-    compile_program(packages, f"{folder}/frontend")
+    go(packages, "build", "-trimpath", "-ldflags", "-s -w -buildid=", "-o", f"{folder}/frontend")
     named = {os.path.basename(place): place for place in re.findall(r"(?:=> |^\s)(/\S+) \(0x", told("ldd", program), re.M)}
     if set(named) != LIBRARIES:
         raise NotRun(f"{program} is linked with {', '.join(sorted(named))}, and the image has {', '.join(sorted(LIBRARIES))}")
