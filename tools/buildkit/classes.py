@@ -26,8 +26,11 @@ CLASSES = {
     "slash": "a class of a pattern takes a `/`, if it is negated or has a range around it, and so paths of more components",
     "name": "Go refuses the name of an image",
     "arguments": "a command's word or variable has a NUL, or is past the system's limits",
+    "elsewhere": "an image with a host in its name is another registry's, which isn't asked",
     "unprintable": "a path that is left out isn't printable ASCII, and `dfsolve llb` says so",
 }
+# what a runtime or the fixture says of a mount that can't be made, or that holds its target
+NO_TARGET = "error mounting .*not a directory|fixture: .*device or resource busy"
 # what a runtime makes in a root for its own mounts
 RUNTIME = ["/dev", "/proc", "/sys", "/etc/hosts", "/etc/resolv.conf", "/.dfsolve"]
 
@@ -138,6 +141,8 @@ def class_of_failure(cause, message, graph):
     asked_for = cause.split(" ")[-1] if cause.startswith("exit") else None
     if asked_for == (status and status.group(1)) or len(runs) > 1:
         return []
+    if re.search(NO_TARGET, message):
+        return ["target"]
     return ["another failure"] if bool(asked_for) != bool(status) and copies_of(graph) else None
 
 
@@ -173,7 +178,7 @@ def left_folders(runs):
 
 def class_of_command(ours, graph, message):
     """Why a command failed there alone."""
-    if re.search("error mounting .*not a directory|fixture: .*device or resource busy", message):
+    if re.search(NO_TARGET, message):
         return ["target"]
     if re.search("cannot (copy to non-directory|replace to directory)", message) and takes_runtimes(graph):
         return ["runtime"]

@@ -74,6 +74,10 @@ class Dockerd:
     def load(self, saved):
         asked(self.sock, "POST", "/images/load?quiet=1", saved)
 
+    def is_elsewhere(self, _name):
+        """Whether an image of this name can't be put where the daemon finds it."""
+        return False
+
 
 class Registry(http.server.ThreadingHTTPServer):
     """A registry that has a few images in memory: by `name:tag` or digest, the media type and the bytes."""
@@ -145,6 +149,11 @@ class Buildkitd:
         """Puts an image of one layer where this buildkitd looks for those of docker.io."""
         self.registry.put(self.place(name), layer, fields)
         return True
+
+    def is_elsewhere(self, name):
+        """A name with a host is asked for at that host."""
+        host, is_deep, _ = name.removeprefix("docker.io/").partition("/")
+        return bool(is_deep) and (bool(re.search("[.:]", host)) or host == "localhost")
 
     def pinned(self, name):
         """The digest of the image of a name, whose tag is then that of another image, of an empty layer."""
