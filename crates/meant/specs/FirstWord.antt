@@ -1,5 +1,5 @@
 -- What is said of a line that begins with no instruction (own).
-use Rattle.std.specs.Prelude.{◌==◌, ◌||◌, ℕ, Bool, true, false, List, [], ◌∷◌, Option, Some, None, bytes_eq, codes, map, if◌then◌else◌}
+use Rattle.std.specs.Prelude.{◌==◌, ◌||◌, ℕ, Bool, false, List, [], ◌∷◌, Option, Some, None, bytes_eq, codes, map, if◌then◌else◌}
 use Rattle.std.specs.List.{list_all}
 use Rattle.plain.specs.declared.refusal.Code.TheVariants.{R04}
 use Rattle.ascii.specs.Names.{is_letter}

@@ -1,4 +1,4 @@
-use Rattle.std.proofs.Common.{◌≡◌, drop, map, codes, string_bytes}
+use Rattle.std.proofs.Common.{◌≡◌, drop, map, string_bytes}
 use Rattle.meant.specs.Mounts.{first_faulty, first_faulty_after}
 use Rattle.meant.proofs.mounts.first_faulty.Given as goal
 

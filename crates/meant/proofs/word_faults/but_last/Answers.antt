@@ -1,4 +1,4 @@
-use Rattle.std.proofs.Common.{◌≡◌, ◌-◌, ◌∙◌, ℕ, Bor, List, ap, length, map, sym, take}
+use Rattle.std.proofs.Common.{◌-◌, ◌∙◌, ℕ, Bor, List, ap, length, map, sym, take}
 use Rattle.std.proofs.lemmas.List.{length-map}
 use Rattle.meant.proofs.LineFacts.{first_lines}
 use Rattle.meant.proofs.word_faults.but_last.Goals as goal
