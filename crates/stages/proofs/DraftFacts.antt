@@ -298,11 +298,12 @@ adds_other known args draft i names result begins there evaluates =
     subst (λ b. Evaluates (Some (draft_by known args draft i b)) (begun_due known args draft.outer draft.names i.kind b) (begun_fault args draft.outer draft.names i.kind b) result) (sym begins)
     (subst (λ ns. Evaluates (Some (draft_other known args draft ns i)) (other_due known args draft.outer ns i.kind) (other_fault args draft.outer ns i.kind) result) (sym there) evaluates)
 
-pub other_outer : (known : Known) (args : Values) (draft : Draft) (i : Instruction) (result : Result Draft (Fault Reason)) → draft.names ≡ []
-    → Evaluates (Some (draft_outer args draft (declared_by i.kind))) (outer_due args draft.outer (declared_by i.kind)) (outer_fault args draft.outer (declared_by i.kind)) result
+pub other_outer : (known : Known) (args : Values) (draft : Draft) (i : Instruction) (kind : InstructionKind) (result : Result Draft (Fault Reason)) → kind ≡ i.kind → draft.names ≡ []
+    → Evaluates (Some (draft_outer args draft (declared_by kind))) (outer_due args draft.outer (declared_by kind)) (outer_fault args draft.outer (declared_by kind)) result
     → Evaluates (Some (draft_other known args draft draft.names i)) (other_due known args draft.outer draft.names i.kind) (other_fault args draft.outer draft.names i.kind) result
-other_outer known args draft i result none evaluates =
-    subst (λ ns. Evaluates (Some (draft_other known args draft ns i)) (other_due known args draft.outer ns i.kind) (other_fault args draft.outer ns i.kind) result) (sym none) evaluates
+other_outer known args draft i kind result kind_is none evaluates =
+    subst (λ ns. Evaluates (Some (draft_other known args draft ns i)) (other_due known args draft.outer ns i.kind) (other_fault args draft.outer ns i.kind) result) (sym none)
+    (subst (λ k. Evaluates (Some (draft_outer args draft (declared_by k))) (outer_due args draft.outer (declared_by k)) (outer_fault args draft.outer (declared_by k)) result) kind_is evaluates)
 
 other_inner_by : (known : Known) (args : Values) (draft : Draft) (i : Instruction) (names : Names) (result : Result Draft (Fault Reason))
     → (names ≡ [] → ⊥)
@@ -346,22 +347,23 @@ pub outer_none : (args : Values) (draft : Draft) (kind : InstructionKind) → de
 outer_none args draft kind says =
     subst (λ d. Evaluates {X = Draft} (Some (draft_outer args draft d)) (outer_due args draft.outer d) (outer_fault args draft.outer d) (Err (Because (Coded R05)))) (sym says) refl
 
-pub extend_ok : (known : Known) (draft next : Draft) (i : Instruction) (names : Names) (origins : List Origin) → names ≡ draft.names
-    → (Some (origins_of known (all_but_last names) i.kind) ≡ Some origins) × (reason (inner_due known (all_but_last names) i.kind) None ≡ None)
+pub extend_ok : (known : Known) (draft next : Draft) (i : Instruction) (kind : InstructionKind) (names : Names) (origins : List Origin) → kind ≡ i.kind → names ≡ draft.names
+    → (Some (origins_of known (all_but_last names) kind) ≡ Some origins) × (reason (inner_due known (all_but_last names) kind) None ≡ None)
     → next ≡ record draft { last = last_with (record { instruction = i; origins = origins }) draft.last }
     → (Some (draft_extended known draft i) ≡ Some next) × (reason (inner_due known (all_but_last draft.names) i.kind) None ≡ None)
-extend_ok known draft next i names origins same found is =
+extend_ok known draft next i kind names origins kind_is same found is =
     let found_is : origins ≡ origins_of known (all_but_last draft.names) i.kind =
-    sym (some_is _ _ found.0) ∙ ap (λ ns. origins_of known (all_but_last ns) i.kind) same in (
+    sym (some_is _ _ found.0) ∙ ap (λ ns. origins_of known (all_but_last ns) kind) same ∙ ap (λ k. origins_of known (all_but_last draft.names) k) kind_is in (
       ap (λ os. Some (record draft { last = last_with (record { instruction = i; origins = os }) draft.last })) (sym found_is) ∙ ap Some (sym is),
-      ap (λ ns. reason (inner_due known (all_but_last ns) i.kind) None) (sym same) ∙ found.1,
+      ap (λ k. reason (inner_due known (all_but_last draft.names) k) None) (sym kind_is) ∙ ap (λ ns. reason (inner_due known (all_but_last ns) kind) None) (sym same) ∙ found.1,
     )
 
-pub extend_err : (known : Known) (draft : Draft) (i : Instruction) (names : Names) (fault : Fault Reason) → names ≡ draft.names
-    → Evaluates (Some (origins_of known (all_but_last names) i.kind)) (inner_due known (all_but_last names) i.kind) None (Err fault)
+pub extend_err : (known : Known) (draft : Draft) (i : Instruction) (kind : InstructionKind) (names : Names) (fault : Fault Reason) → kind ≡ i.kind → names ≡ draft.names
+    → Evaluates (Some (origins_of known (all_but_last names) kind)) (inner_due known (all_but_last names) kind) None (Err fault)
     → Evaluates (Some (draft_extended known draft i)) (inner_due known (all_but_last draft.names) i.kind) None (Err fault)
-extend_err known draft i names (Because why) same evaluates = ap (λ ns. reason (inner_due known (all_but_last ns) i.kind) None) (sym same) ∙ evaluates
-extend_err known draft i names Memory same evaluates = tt
+extend_err known draft i kind names (Because why) kind_is same evaluates =
+    ap (λ k. reason (inner_due known (all_but_last draft.names) k) None) (sym kind_is) ∙ ap (λ ns. reason (inner_due known (all_but_last ns) kind) None) (sym same) ∙ evaluates
+extend_err known draft i kind names Memory kind_is same evaluates = tt
 
 pub mapped_none : {X Y : Type 0} (f : X → Y) (o : Option X) (y : Option Y) → option_map f o ≡ y → o ≡ None → y ≡ None
 mapped_none f o y e none = sym e ∙ ap (λ x. option_map f x) none

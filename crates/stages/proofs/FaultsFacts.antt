@@ -255,29 +255,32 @@ dropped is index i lt here =
     let next : suc index ≡ index + 1 = omega arith in
     drop-cons is index i lt ∙ (ap (λ j. j ∷ drop (suc index) is) (sym here) ∙ ap (λ n. i ∷ drop n is) next)
 
-pub turn_step : (known : Known) (args : Values) (all : List Rejection) (is : List Instruction) (index : ℕ) (i : Instruction)
+pub turn_step : (known : Known) (args : Values) (all : List Rejection) (is : List Instruction) (index : ℕ) (i : Instruction) (kind : InstructionKind) (line : ℕ)
     (outer next_outer : List Declaration) (names next_names : Names) (refusals more : List Rejection) (why : Option Reason) (is_outer : Bool)
-    → index < length is → i ≡ get_or is index i → FaultsSoFar known args all (take index is) (drop index is) index outer names refusals
-    → Judges (kind_due known args outer names i.kind) (kind_fault args outer names i.kind) (outer_by args outer names (declared_by i.kind) (begun i.kind)) outer next_outer why
-    → next_names ≡ names_by names (begun i.kind) → is_outer ≡ is_outer_argument names (declared_by i.kind)
-    → more ≡ refusals ++ reported i.line why → (is_some why && is_outer) ≡ false
+    → index < length is → i ≡ get_or is index i → kind ≡ i.kind → line ≡ i.line → FaultsSoFar known args all (take index is) (drop index is) index outer names refusals
+    → Judges (kind_due known args outer names kind) (kind_fault args outer names kind) (outer_by args outer names (declared_by kind) (begun kind)) outer next_outer why
+    → next_names ≡ names_by names (begun kind) → is_outer ≡ is_outer_argument names (declared_by kind)
+    → more ≡ refusals ++ reported line why → (is_some why && is_outer) ≡ false
     → FaultsSoFar known args all (take (index + 1) is) (drop (index + 1) is) (index + 1) next_outer next_names more
-turn_step known args all is index i outer next_outer names next_names refusals more why is_outer lt here far judged longer tests added goes_on =
+turn_step known args all is index i kind line outer next_outer names next_names refusals more why is_outer lt here kind_is line_is far judged longer tests added goes_on =
     subst (λ (done : List Instruction). FaultsSoFar known args all done (drop (index + 1) is) (index + 1) next_outer next_names more) (sym (taken is index i lt here))
     (faults_step known args all (take index is) i (drop (index + 1) is) index outer next_outer names next_names refusals more why is_outer
     (subst (λ (rest : List Instruction). FaultsSoFar known args all (take index is) rest index outer names refusals) (dropped is index i lt here) far)
-    judged longer tests added goes_on)
+    (subst (λ k. Judges (kind_due known args outer names k) (kind_fault args outer names k) (outer_by args outer names (declared_by k) (begun k)) outer next_outer why) kind_is judged)
+    (subst (λ k. next_names ≡ names_by names (begun k)) kind_is longer)
+    (tests ∙ ap (λ k. is_outer_argument names (declared_by k)) kind_is) (added ∙ ap (λ n. refusals ++ reported n why) line_is) goes_on)
 
-pub turn_last : (known : Known) (args : Values) (all : List Rejection) (is : List Instruction) (index : ℕ) (i : Instruction)
+pub turn_last : (known : Known) (args : Values) (all : List Rejection) (is : List Instruction) (index : ℕ) (i : Instruction) (kind : InstructionKind) (line : ℕ)
     (outer next_outer : List Declaration) (names : Names) (refusals more : List Rejection) (why : Option Reason) (is_outer : Bool)
-    → index < length is → i ≡ get_or is index i → FaultsSoFar known args all (take index is) (drop index is) index outer names refusals
-    → Judges (kind_due known args outer names i.kind) (kind_fault args outer names i.kind) (outer_by args outer names (declared_by i.kind) (begun i.kind)) outer next_outer why
-    → is_outer ≡ is_outer_argument names (declared_by i.kind)
-    → more ≡ refusals ++ reported i.line why → (is_some why && is_outer) ≡ true → more ≡ all
-turn_last known args all is index i outer next_outer names refusals more why is_outer lt here far judged tests added ends =
+    → index < length is → i ≡ get_or is index i → kind ≡ i.kind → line ≡ i.line → FaultsSoFar known args all (take index is) (drop index is) index outer names refusals
+    → Judges (kind_due known args outer names kind) (kind_fault args outer names kind) (outer_by args outer names (declared_by kind) (begun kind)) outer next_outer why
+    → is_outer ≡ is_outer_argument names (declared_by kind)
+    → more ≡ refusals ++ reported line why → (is_some why && is_outer) ≡ true → more ≡ all
+turn_last known args all is index i kind line outer next_outer names refusals more why is_outer lt here kind_is line_is far judged tests added ends =
     faults_last known args all (take index is) i (drop (index + 1) is) index outer next_outer names refusals more why is_outer
     (subst (λ (rest : List Instruction). FaultsSoFar known args all (take index is) rest index outer names refusals) (dropped is index i lt here) far)
-    judged tests added ends
+    (subst (λ k. Judges (kind_due known args outer names k) (kind_fault args outer names k) (outer_by args outer names (declared_by k) (begun k)) outer next_outer why) kind_is judged)
+    (tests ∙ ap (λ k. is_outer_argument names (declared_by k)) kind_is) (added ∙ ap (λ n. refusals ++ reported n why) line_is) ends
 
 pub turn_over : (known : Known) (args : Values) (all : List Rejection) (is : List Instruction) (index : ℕ) (outer : List Declaration) (names : Names) (refusals : List Rejection)
     → length is ≤ index → FaultsSoFar known args all (take index is) (drop index is) index outer names refusals → refusals ≡ all

@@ -1,7 +1,8 @@
 -- Facts on the images that a file names.
 use Rattle.std.proofs.Common.{◌≡◌, ◌<◌, ◌≤◌, ◌++◌, ◌+◌, ℕ, Bool, true, false, List, [], ◌∷◌, Option, Some, None, length, take, drop, get_or, refl, sym, ap, ◌∙◌, subst, arith, if◌then◌else◌}
-use Rattle.std.specs.Prelude.{Result, Ok, Err, IfOk, is_some}
+use Rattle.std.specs.Prelude.{Result, IfOk, is_some, not}
 use Rattle.std.specs.Option.{is_none}
+use Rattle.std.proofs.lemmas.Bool.{true≢false}
 use Rattle.std.proofs.lemmas.List.{append_assoc, append-nil, drop_all}
 use Rattle.plain.specs.declared.memory.Memory.{Memory as Want}
 use Rattle.expand.specs.Value.{Parts}
@@ -49,14 +50,20 @@ declared_goes : (args : Values) (outer new : List Declaration) (arguments : List
 declared_goes args outer new arguments None judged = (fault_none (arg_fault (value_in outer) args arguments) judged.0, judged.1)
 declared_goes args outer new arguments (Some why) judged = fault_some (arg_fault (value_in outer) args arguments) why judged.0
 
+none_goes : (why : Option Reason) (goes : Bool) → is_some why ≡ not goes → goes ≡ is_none why
+none_goes None true e = refl
+none_goes None false e = absurd (true≢false (sym e))
+none_goes (Some why) true e = absurd (true≢false e)
+none_goes (Some why) false e = refl
+
 pub outer_some_goes : (args : Values) (outer new : List Declaration) (declared : Option (List Argument)) (arguments : List Argument) (why : Option Reason) (goes : Bool)
     → declared ≡ Some arguments
     → Judges (argument_due (arg_fault (value_in outer) args arguments)) (arg_fault (value_in outer) args arguments) (kept (outer ++ arg_line (value_in outer) args (λ name. None) arguments)) outer new why
-    → goes ≡ is_none why
+    → is_some why ≡ not goes
     → GoesOn (is_some (outer_fault args outer declared)) (outer_with args outer declared) new goes
 outer_some_goes args outer new declared arguments why goes says judged is =
     subst (λ d. GoesOn (is_some (outer_fault args outer d)) (outer_with args outer d) new goes) (sym says)
-    (subst (GoesOn (is_some (outer_fault args outer (Some arguments))) (outer_with args outer (Some arguments)) new) (sym is)
+    (subst (GoesOn (is_some (outer_fault args outer (Some arguments))) (outer_with args outer (Some arguments)) new) (sym (none_goes why goes is))
     (declared_goes args outer new arguments why judged))
 
 pub outer_none_goes : (args : Values) (outer : List Declaration) (declared : Option (List Argument)) → declared ≡ None
@@ -161,34 +168,47 @@ names_step args all done i rest count outer next_outer names next_names found mo
   named = named_as args all done i rest count outer names found more false far added goes.0;
 }
 
--- over the list that the loop goes through
+-- over the list that the loop goes through, which has the instruction's kind, its line and the names by other names
 
-pub names_turn : (args : Values) (all : List ImageName) (is : List Instruction) (index : ℕ) (i : Instruction) (outer next_outer : List Declaration)
+named_at : (kind : InstructionKind) (line : ℕ) (i : Instruction) (outer : List Declaration) (names lent : Names) (found more : List ImageName) → kind ≡ i.kind → line ≡ i.line → lent ≡ names
+    → more ≡ found ++ on_line line (images_at outer lent kind) → more ≡ found ++ on_line i.line (images_at outer names i.kind)
+named_at kind line i outer names lent found more kind_is line_is same added =
+    added ∙ (ap (λ ns. found ++ on_line line (images_at outer ns kind)) same
+    ∙ (ap (λ n. found ++ on_line n (images_at outer names kind)) line_is ∙ ap (λ k. found ++ on_line i.line (images_at outer names k)) kind_is))
+
+goes_at : (args : Values) (outer next_outer : List Declaration) (names : Names) (kind : InstructionKind) (i : Instruction) (goes wanted : Bool) → kind ≡ i.kind → goes ≡ wanted
+    → GoesOn (is_refused_argument args outer names (declared_by kind)) (outer_by args outer names (declared_by kind) (begun kind)) next_outer goes
+    → GoesOn (is_refused_argument args outer names (declared_by i.kind)) (outer_by args outer names (declared_by i.kind) (begun i.kind)) next_outer wanted
+goes_at args outer next_outer names kind i goes wanted kind_is is on =
+    subst (λ k. GoesOn (is_refused_argument args outer names (declared_by k)) (outer_by args outer names (declared_by k) (begun k)) next_outer wanted) kind_is
+    (subst (GoesOn (is_refused_argument args outer names (declared_by kind)) (outer_by args outer names (declared_by kind) (begun kind)) next_outer) is on)
+
+pub names_turn : (args : Values) (all : List ImageName) (is : List Instruction) (index : ℕ) (i : Instruction) (kind : InstructionKind) (line : ℕ) (outer next_outer : List Declaration)
     (names lent next_names : Names) (found more : List ImageName) (goes : Bool)
-    → index < length is → i ≡ get_or is index i → NamesSoFar args all (take index is) (drop index is) index outer names found → lent ≡ names
-    → more ≡ found ++ on_line i.line (images_at outer lent i.kind)
-    → GoesOn (is_refused_argument args outer names (declared_by i.kind)) (outer_by args outer names (declared_by i.kind) (begun i.kind)) next_outer goes → goes ≡ true
-    → next_names ≡ names_by names (begun i.kind)
+    → index < length is → i ≡ get_or is index i → kind ≡ i.kind → line ≡ i.line → NamesSoFar args all (take index is) (drop index is) index outer names found → lent ≡ names
+    → more ≡ found ++ on_line line (images_at outer lent kind)
+    → GoesOn (is_refused_argument args outer names (declared_by kind)) (outer_by args outer names (declared_by kind) (begun kind)) next_outer goes → goes ≡ true
+    → next_names ≡ names_by names (begun kind)
     → NamesSoFar args all (take (index + 1) is) (drop (index + 1) is) (index + 1) next_outer next_names more
-names_turn args all is index i outer next_outer names lent next_names found more goes lt here far same added on goes_on longer =
+names_turn args all is index i kind line outer next_outer names lent next_names found more goes lt here kind_is line_is far same added on goes_on longer =
     subst (λ (done : List Instruction). NamesSoFar args all done (drop (index + 1) is) (index + 1) next_outer next_names more) (sym (taken is index i lt here))
     (names_step args all (take index is) i (drop (index + 1) is) index outer next_outer names next_names found more
     (subst (λ (rest : List Instruction). NamesSoFar args all (take index is) rest index outer names found) (dropped is index i lt here) far)
-    (added ∙ ap (λ ns. found ++ on_line i.line (images_at outer ns i.kind)) same)
-    (subst (GoesOn (is_refused_argument args outer names (declared_by i.kind)) (outer_by args outer names (declared_by i.kind) (begun i.kind)) next_outer) goes_on on) longer)
+    (named_at kind line i outer names lent found more kind_is line_is same added)
+    (goes_at args outer next_outer names kind i goes true kind_is goes_on on) (subst (λ k. next_names ≡ names_by names (begun k)) kind_is longer))
 
-pub names_last : (args : Values) (all : List ImageName) (is : List Instruction) (index : ℕ) (i : Instruction) (outer next_outer : List Declaration)
+pub names_last : (args : Values) (all : List ImageName) (is : List Instruction) (index : ℕ) (i : Instruction) (kind : InstructionKind) (line : ℕ) (outer next_outer : List Declaration)
     (names lent : Names) (found more : List ImageName) (goes : Bool)
-    → index < length is → i ≡ get_or is index i → NamesSoFar args all (take index is) (drop index is) index outer names found → lent ≡ names
-    → more ≡ found ++ on_line i.line (images_at outer lent i.kind)
-    → GoesOn (is_refused_argument args outer names (declared_by i.kind)) (outer_by args outer names (declared_by i.kind) (begun i.kind)) next_outer goes → goes ≡ false
+    → index < length is → i ≡ get_or is index i → kind ≡ i.kind → line ≡ i.line → NamesSoFar args all (take index is) (drop index is) index outer names found → lent ≡ names
+    → more ≡ found ++ on_line line (images_at outer lent kind)
+    → GoesOn (is_refused_argument args outer names (declared_by kind)) (outer_by args outer names (declared_by kind) (begun kind)) next_outer goes → goes ≡ false
     → more ≡ all
-names_last args all is index i outer next_outer names lent found more goes lt here far same added on ends =
-    let refused = subst (GoesOn (is_refused_argument args outer names (declared_by i.kind)) (outer_by args outer names (declared_by i.kind) (begun i.kind)) next_outer) ends on in
+names_last args all is index i kind line outer next_outer names lent found more goes lt here kind_is line_is far same added on ends =
+    let refused = goes_at args outer next_outer names kind i goes false kind_is ends on in
     sym (append-nil more)
     ∙ named_as args all (take index is) i (drop (index + 1) is) index outer names found more true
     (subst (λ (rest : List Instruction). NamesSoFar args all (take index is) rest index outer names found) (dropped is index i lt here) far)
-    (added ∙ ap (λ ns. found ++ on_line i.line (images_at outer ns i.kind)) same) refused
+    (named_at kind line i outer names lent found more kind_is line_is same added) refused
 
 pub names_over : (args : Values) (all : List ImageName) (is : List Instruction) (index : ℕ) (outer : List Declaration) (names : Names) (found : List ImageName)
     → length is ≤ index → NamesSoFar args all (take index is) (drop index is) index outer names found → found ≡ all

@@ -37,7 +37,7 @@ use Rattle.stages.specs.Due.{outer_due, outer_fault, other_due, other_fault, rea
 use Rattle.stages.specs.Table.{StagesValue, unless_begun, stage_instructions, stages_after, stages_of, stages_in, lines_of, IsResolved, IsStage, IsTable, AreStages, IsKnown, NamesKnown}
 use Rattle.stages.specs.Resolved.{target_of, reported_at, first_refusal, are_arguments, unless_refused, resolved_stages, Returns}
 use Rattle.stages.specs.PrivateResolving.{with_last, IsCounted, AreCounted, IsDraft, Drafts}
-use Rattle.stages.specs.PrivateTable.{stages_by, table_by}
+use Rattle.stages.specs.PrivateTable.{stages_made, table_by}
 use Rattle.stages.proofs.NamingFacts.{found_within, base_before, base_known, origins_before, origins_known}
 use Rattle.stages.proofs.BeforeFacts.{stage_names-push}
 use Rattle.stages.proofs.TableFacts.{resolved_as, new_stage, stages_by, stages_long}
@@ -305,7 +305,7 @@ table_whole known args target is draft stages number file found other clear of a
 
 stages_whole : (known : Known) (args : Values) (is : List Instruction) (draft : Draft)
     → IsDockerfile is → are_arguments is ≡ false → first_refusal known args [] is ≡ None → IsDraft known args is draft
-    → AreStages (stages_by draft.outer draft.names (with_last draft.stages draft.last))
+    → AreStages (stages_made draft.outer draft.names (with_last draft.stages draft.last))
 stages_whole known args is draft file other clear of =
     let long = ap length of.stages ∙ stages_long known (outer_scope args is) [] is in
     let names = ap length of.names in
@@ -349,11 +349,11 @@ stages_missing known args is all =
     ap (λ b. unless_refused (if b then Some (record { reason = Coded R05; line = 1 }) else first_refusal known args [] is) (stages_in known args is)) all
 
 draft_stages : (known : Known) (args : Values) (is : List Instruction) (draft : Draft) → IsDraft known args is draft
-    → stages_by draft.outer draft.names (with_last draft.stages draft.last) ≡ stages_in known args is
+    → stages_made draft.outer draft.names (with_last draft.stages draft.last) ≡ stages_in known args is
 draft_stages known args is draft of =
-    ap (λ outer. stages_by outer draft.names (with_last draft.stages draft.last)) of.outer
-    ∙ ap (λ names. stages_by (outer_scope args is) names (with_last draft.stages draft.last)) of.names
-    ∙ ap (λ stages. stages_by (outer_scope args is) (stage_names is) stages) of.stages
+    ap (λ outer. stages_made outer draft.names (with_last draft.stages draft.last)) of.outer
+    ∙ ap (λ names. stages_made (outer_scope args is) names (with_last draft.stages draft.last)) of.names
+    ∙ ap (λ stages. stages_made (outer_scope args is) (stage_names is) stages) of.stages
 
 pub answers_arguments : (known : Known) (args : Values) (is slice : List Instruction) (flag : Bool) (fault : Fault Rejection) → slice ≡ is
     → flag ≡ are_arguments slice → flag ≡ true → fault ≡ Because (record { reason = Coded R05; line = 1 })
@@ -373,20 +373,20 @@ answers_refused known args is slice items flag fault same same_items tested fail
 
 pub whole_requires : (known : Known) (args : Values) (is slice items : List Instruction) (flag : Bool) (draft : Draft) → IsDockerfile is → slice ≡ is → items ≡ is
     → flag ≡ are_arguments slice → flag ≡ false → Drafts known args items (Ok draft)
-    → AreStages (stages_by draft.outer draft.names (with_last draft.stages draft.last))
+    → AreStages (stages_made draft.outer draft.names (with_last draft.stages draft.last))
 whole_requires known args is slice items flag draft file same same_items tested fails drafts =
     let of = subst (λ js. Drafts known args js (Ok draft)) same_items drafts in
     stages_whole known args is draft file (flag_along is slice flag false same tested fails) of.0 of.1
 
 pub answers_table : (known : Known) (args : Values) (is slice items : List Instruction) (flag : Bool) (draft : Draft) (table : StagesValue) → slice ≡ is → items ≡ is
     → flag ≡ are_arguments slice → flag ≡ false → Drafts known args items (Ok draft)
-    → table ≡ stages_by draft.outer draft.names (with_last draft.stages draft.last) → resolved_stages known args is ≡ Ok table
+    → table ≡ stages_made draft.outer draft.names (with_last draft.stages draft.last) → resolved_stages known args is ≡ Ok table
 answers_table known args is slice items flag draft table same same_items tested fails drafts made =
     let of = subst (λ js. Drafts known args js (Ok draft)) same_items drafts in
     stages_clear known args is (flag_along is slice flag false same tested fails) of.0 ∙ ap (λ t. Ok t) (sym (draft_stages known args is draft of.1) ∙ sym made)
 
 pub table_known_by : (known : Known) (args : Values) (items : List Instruction) (draft : Draft) (table : StagesValue) → Drafts known args items (Ok draft)
-    → table ≡ stages_by draft.outer draft.names (with_last draft.stages draft.last) → All (NamesKnown known) table.stages
+    → table ≡ stages_made draft.outer draft.names (with_last draft.stages draft.last) → All (NamesKnown known) table.stages
 table_known_by known args items draft table drafts made =
     let stages : table.stages ≡ stages_of known args items = ap (λ (t : StagesValue). t.stages) made ∙ drafts.1.stages in
     subst (λ ss. All (NamesKnown known) ss) (sym stages) (names_known known args items)

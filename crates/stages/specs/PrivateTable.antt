@@ -20,8 +20,8 @@ table_code = code_by (List Declaration × (List ResolvedStage × ℕ)) (coded× 
     (λ t. (t.outer, (t.stages, t.target))) (λ p. record { outer = p.0; stages = p.1.0; target = p.1.1 }) (λ _. refl)
 
 -- stages of their parts
-abbrev pub stages_by : List Declaration → Names → List ResolvedStage → StagesValue
-stages_by outer names stages = record { outer = outer; names = names; stages = stages }
+abbrev pub stages_made : List Declaration → Names → List ResolvedStage → StagesValue
+stages_made outer names stages = record { outer = outer; names = names; stages = stages }
 
 -- a table of its parts
 abbrev pub table_by : List Declaration → List ResolvedStage → ℕ → TableValue

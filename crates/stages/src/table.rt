@@ -8,7 +8,7 @@ ghost use Rattle.stages.specs.Table.{AreStages, NamesKnown};
 ghost use Rattle.stages.specs.Resolved.{target_of, resolved_stages, Returns};
 ghost use Rattle.stages.specs.Needed.{AreNeeded};
 ghost use Rattle.stages.specs.PrivateResolving.{with_last};
-ghost use Rattle.stages.specs.PrivateTable.{stages_by};
+ghost use Rattle.stages.specs.PrivateTable.{stages_made};
 
 use crate::marks::mark_needed;
 use crate::naming::stage_found;
@@ -79,8 +79,8 @@ impl StageTable {
 
     /// The table of all that is known after a file's last instruction.
     fn of_draft(draft: Draft) -> Result<StageTable, Memory>
-        requires { AreStages (stages_by draft.outer draft.names (with_last draft.stages draft.last)) }
-        ensures { IfOk result (λ table. table ≡ stages_by draft.outer draft.names (with_last draft.stages draft.last)) }
+        requires { AreStages (stages_made draft.outer draft.names (with_last draft.stages draft.last)) }
+        ensures { IfOk result (λ table. table ≡ stages_made draft.outer draft.names (with_last draft.stages draft.last)) }
     {
         let Draft {
             outer,

@@ -85,7 +85,6 @@ impl TargetTable {
     pub fn needed(&self, alloc: Global) -> Result<Items<bool>, Memory>
         ensures { IfOk result (AreNeeded self.now.stages self.now.target) }
     {
-        let _known = self.stages();
         self.table.needed(alloc, self.target)
     }
 

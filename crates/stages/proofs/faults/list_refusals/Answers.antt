@@ -12,6 +12,6 @@ returns g c =
     let known = names_in c.args.images.now in
     let args = get c.args.args.now in
     let target = option_map (λ (t : Bor Text). t.now) c.args.target in
-    subst (λ is. IfOk c.with_line_refusals.result (λ refusals. refusals ≡ stage_refusals known args target is)) c.instructions.ensures.list
-    (all_reported known args target c.instructions.result.now c.in_ok-refusals.refusals c.with_line_refusals.result c.in_ok-refusals.ensures
+    subst (λ is. IfOk c.with_line_refusals.result (λ refusals. refusals ≡ stage_refusals known args target is)) c.instructions-instructions.ensures.list
+    (all_reported known args target c.instructions-instructions.result.now c.in_ok-refusals.refusals c.with_line_refusals.result c.in_ok-refusals.ensures
     c.with_line_refusals.ensures)

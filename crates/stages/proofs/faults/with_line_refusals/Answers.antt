@@ -10,16 +10,16 @@ loop-instruction-init g c = faults_first _ _ c.args.instructions.now _ _ c.args.
 
 pub loop-instruction-preserved : goal.loop-instruction-preserved
 loop-instruction-preserved g c =
-    turn_step _ _ _ c.args.instructions.now c.loop-instruction.instruction-index c.instruction-item.result _ c.kind_reason.new.outer _
-    c.kind_reason.new.names _ c.tell.new.refusals c.in_ok-reason.reason _ c.loop-instruction-test.true c.instruction-item.is c.loop-instruction.invariant
-    c.in_ok-reason.ensures.why c.in_ok-reason.ensures.names (c.is_outer_argument-is_outer.ensures ∙ ap (λ (ns : Names). is_outer_argument ns (declared_by c.instruction-item.result.kind)) c.as_slice.ensures) c.in_ok-is_last.ensures.refusals
+    turn_step _ _ _ c.args.instructions.now c.loop-instruction.instruction-index c.instruction-item.result _ _ _ c.kind_reason.new.outer _
+    c.kind_reason.new.names _ c.tell.new.refusals c.in_ok-reason.reason _ c.loop-instruction-test.true c.instruction-item.is c.kind-kind.ensures.kind c.line.ensures c.loop-instruction.invariant
+    c.in_ok-reason.ensures.why c.in_ok-reason.ensures.names (c.is_outer_argument-is_outer.ensures ∙ ap (λ (ns : Names). is_outer_argument ns (declared_by c.kind-kind.result.now)) c.as_slice.ensures) c.in_ok-is_last.ensures.refusals
     (sym c.in_ok-is_last.ensures.last ∙ c.if-is_last.false)
 
 pub returns-then-is_last : goal.returns-then-is_last
 returns-then-is_last g c =
-    turn_last _ _ _ c.args.instructions.now c.loop-instruction.instruction-index c.instruction-item.result _ c.kind_reason.new.outer _
-    _ c.tell.new.refusals c.in_ok-reason.reason _ c.loop-instruction-test.true c.instruction-item.is c.loop-instruction.invariant
-    c.in_ok-reason.ensures.why (c.is_outer_argument-is_outer.ensures ∙ ap (λ (ns : Names). is_outer_argument ns (declared_by c.instruction-item.result.kind)) c.as_slice.ensures) c.in_ok-is_last.ensures.refusals
+    turn_last _ _ _ c.args.instructions.now c.loop-instruction.instruction-index c.instruction-item.result _ _ _ c.kind_reason.new.outer _
+    _ c.tell.new.refusals c.in_ok-reason.reason _ c.loop-instruction-test.true c.instruction-item.is c.kind-kind.ensures.kind c.line.ensures c.loop-instruction.invariant
+    c.in_ok-reason.ensures.why (c.is_outer_argument-is_outer.ensures ∙ ap (λ (ns : Names). is_outer_argument ns (declared_by c.kind-kind.result.now)) c.as_slice.ensures) c.in_ok-is_last.ensures.refusals
     (sym c.in_ok-is_last.ensures.last ∙ c.if-is_last.true)
 
 pub returns : goal.returns

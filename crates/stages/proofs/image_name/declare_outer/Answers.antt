@@ -6,10 +6,10 @@ use Rattle.stages.proofs.DraftFacts.{mapped_none}
 use Rattle.stages.proofs.ImageFacts.{outer_some_goes, outer_none_goes}
 use Rattle.stages.proofs.image_name.declare_outer.Goals as goal
 
-pub returns-in-Some : goal.returns-in-Some
-returns-in-Some c =
+pub returns-in_ok-reason-in-Some : goal.returns-in_ok-reason-in-Some
+returns-in_ok-reason-in-Some c =
     outer_some_goes (get c.args.args.now) c.args.outer.now c.argument_reason.new.outer (declared_by c.args.kind.now) _ _ _
-    (sym c.declared_by.ensures ∙ ap (λ o. option_map (λ arguments. arguments.now) o) c.in-Some.is) c.in_ok-reason.ensures c.is_none.ensures
+    (sym c.declared_by.ensures ∙ ap (λ o. option_map (λ arguments. arguments.now) o) c.in-Some.is) c.in_ok-reason-in-Some.ensures c.is_none.ensures
 
 pub returns-in-None : goal.returns-in-None
 returns-in-None c =

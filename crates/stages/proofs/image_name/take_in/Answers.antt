@@ -5,8 +5,8 @@ use Rattle.stages.proofs.DraftFacts.{mapped_none}
 use Rattle.stages.proofs.ImageFacts.{begun_goes, other_goes}
 use Rattle.stages.proofs.image_name.take_in.Goals as goal
 
-pub returns-in-Some-clause-goes : goal.returns-in-Some-clause-goes
-returns-in-Some-clause-goes c =
+pub returns-in_ok-push_name-in-Some-clause-goes : goal.returns-in_ok-push_name-in-Some-clause-goes
+returns-in_ok-push_name-in-Some-clause-goes c =
     begun_goes (get c.args.args.now) c.args.outer.now c.args.names.now c.args.kind.now _
     (sym c.begun.ensures ∙ ap (λ o. option_map (λ stage. (stage.0.now, stage.1.now)) o) c.in-Some.is)
 
