@@ -105,3 +105,19 @@ reported_both args outer s next kind origins line (Ok made) left act =
 reported_both args outer s next kind origins line (Err (Because refusal)) left act =
     (act.0, due_acted args outer s kind refusal.reason (subst (λ (t : State). reason (acted_due t kind) (acted_fault t kind) ≡ Some refusal.reason) left.0 act.1))
 reported_both args outer s next kind origins line (Err Memory) left act = tt
+
+-- the same of a kind and a line that were read of an instruction
+
+pub left_as : (args outer : Values) (s : State) (kind spelled : InstructionKind) (line at : ℕ) (result : Result State (Fault Rejection)) → spelled ≡ kind → at ≡ line
+    → EvaluatesTo (after args outer s spelled) (left_due args s spelled) (left_fault args s spelled) at result
+    → EvaluatesTo (after args outer s kind) (left_due args s kind) (left_fault args s kind) line result
+left_as args outer s kind spelled line at result same here h =
+    subst (λ (n : ℕ). EvaluatesTo (after args outer s kind) (left_due args s kind) (left_fault args s kind) n result) here
+    (subst (λ (k : InstructionKind). EvaluatesTo (after args outer s k) (left_due args s k) (left_fault args s k) at result) same h)
+
+pub finished_as : (s : State) (kind spelled : InstructionKind) (origins : List Origin) (line at : ℕ) (result : Result Done (Fault Rejection)) → spelled ≡ kind → at ≡ line
+    → EvaluatesTo (finished s spelled origins) (acted_due s spelled) (acted_fault s spelled) at result
+    → EvaluatesTo (finished s kind origins) (acted_due s kind) (acted_fault s kind) line result
+finished_as s kind spelled origins line at result same here h =
+    subst (λ (n : ℕ). EvaluatesTo (finished s kind origins) (acted_due s kind) (acted_fault s kind) n result) here
+    (subst (λ (k : InstructionKind). EvaluatesTo (finished s k origins) (acted_due s k) (acted_fault s k) at result) same h)
