@@ -16,5 +16,5 @@ returns-in-Env c =
     let reported =
     subst (λ (as_now : List Assignment). EvaluatesTo (variables_set s as_now) (due (value_in s.scope) s.config (Env as_now)) (fault (value_in s.scope) (Env as_now)) line c.set_variables.result)
     c.as_slice-in-Env.ensures c.set_variables.ensures in
-    left_as (get c.args.given.now.args.now) (value_in c.args.given.now.outer.now) s c.args.instruction.now.kind (Env c.in-Env.assignments.now) c.args.instruction.now.line line
+    left_as (get c.args.given.now.args.now) (value_in c.args.given.now.outer.now) s c.args.instruction.now.kind (Env c.in-Env.assignments) c.args.instruction.now.line line
     c.set_variables.result (sym c.in-Env.is ∙ c.kind.ensures.kind) c.line-in-Env.ensures reported
