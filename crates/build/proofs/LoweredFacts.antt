@@ -1,6 +1,6 @@
 -- Which images a file's stages name, and what lowering answers by its parts.
-use Rattle.std.proofs.Common.{◌≡◌, ◌<◌, ◌≤◌, ℕ, Bool, true, false, cond, not, List, [], ◌∷◌, Option, Some, None, length, refl, ap, sym, ◌∙◌, subst, arith, tests}
-use Rattle.std.specs.Prelude.{Result, Ok, Err, option_map, nat_lt}
+use Rattle.std.proofs.Common.{◌≡◌, ℕ, Bool, true, false, cond, List, [], ◌∷◌, Option, Some, None, refl, sym, subst}
+use Rattle.std.specs.Prelude.{Result, Ok, Err}
 use Rattle.std.specs.List.{All, list_any}
 use Rattle.std.specs.Option.{option_or}
 use Rattle.std.proofs.lemmas.Bool.{or_parts, not-false}
@@ -8,18 +8,16 @@ use Rattle.std.proofs.lemmas.List.Elements.{All-nil, All-cons}
 use Rattle.std.proofs.lemmas.Option.{none-some}
 use Rattle.plain.specs.declared.fault.Fault.{Fault}
 use Rattle.plain.specs.declared.fault.Fault.TheVariants.{Because, Memory}
-use Rattle.plain.specs.declared.refusal.Code.TheVariants.{R12, R13}
-use Rattle.expand.specs.declared.reason.Reason.TheVariants.{Coded}
 use Rattle.expand.specs.declared.reason.Rejection.{Rejection}
 use Rattle.llb.specs.declared.op.Source.TheVariants.{Scratch, Context, Image}
 use Rattle.rows.specs.declared.row.Origin.{Origin}
 use Rattle.rows.specs.declared.row.Origin.TheVariants.{Source as SourceOf, Stage as StageOf}
 use Rattle.stages.specs.Naming.{Known}
 use Rattle.stages.specs.Resolved.{Returns, unless_refused}
-use Rattle.stages.specs.Table.{TableValue, StagesValue, IsKnown, NamesKnown, targeted}
+use Rattle.stages.specs.Table.{TableValue, IsKnown, NamesKnown}
 use Rattle.stages.specs.declared.stage.ResolvedInstruction.{ResolvedInstruction}
 use Rattle.stages.specs.declared.stage.ResolvedStage.{ResolvedStage}
-use Rattle.build.specs.Lowered.{is_lacking, lacking_inside, lacking_in, lacking_line, target_refusal, AnswersUnless}
+use Rattle.build.specs.Lowered.{is_lacking, lacking_inside, lacking_in, lacking_line, AnswersUnless}
 
 -- if no line names an image that isn't known, all that is named is known
 
@@ -58,44 +56,6 @@ known_all known (stage ∷ stages) h = by (lacking_in known stage) refl h (known
     by : (o : Option ℕ) → lacking_in known stage ≡ o → option_or o (lacking_line known stages) ≡ None → (lacking_line known stages ≡ None → All (NamesKnown known) stages) → All (NamesKnown known) (stage ∷ stages)
     by None e i rest = All-cons (NamesKnown known) stage stages (known_in known stage e) (rest i)
     by (Some line) e i rest = absurd (none-some line (sym i))
-
--- what is against a target, by whether it is a stage
-
-pub is_stage : (known : Known) (file : StagesValue) (target : ℕ) (made : TableValue) (line : Option ℕ) → target < length file.stages → made ≡ targeted file target → line ≡ lacking_line known made.stages
-    → target_refusal known file target ≡ option_map (λ (at : ℕ). record { reason = Coded R12; line = at }) line
-is_stage known file target made line below is found =
-    by (nat_lt target (length file.stages)) refl
-    ∙ ap (option_map (λ (at : ℕ). record { reason = Coded R12; line = at })) (sym (found ∙ ap (λ (t : TableValue). lacking_line known t.stages) is))
-  where
-    by : (b : Bool) → nat_lt target (length file.stages) ≡ b
-        → cond b (option_map (λ (at : ℕ). record { reason = Coded R12; line = at }) (lacking_line known file.stages)) (Some (record { reason = Coded R13; line = 0 }))
-        ≡ option_map (λ (at : ℕ). record { reason = Coded R12; line = at }) (lacking_line known file.stages)
-    by true e = refl
-    by false e = absurd (grind (arith, tests))
-
-pub is_no_stage : (known : Known) (file : StagesValue) (target : ℕ) → length file.stages ≤ target → target_refusal known file target ≡ Some (record { reason = Coded R13; line = 0 })
-is_no_stage known file target above = by (nat_lt target (length file.stages)) refl
-  where
-    by : (b : Bool) → nat_lt target (length file.stages) ≡ b
-        → cond b (option_map (λ (at : ℕ). record { reason = Coded R12; line = at }) (lacking_line known file.stages)) (Some (record { reason = Coded R13; line = 0 })) ≡ Some (record { reason = Coded R13; line = 0 })
-    by true e = absurd (grind (arith, tests))
-    by false e = refl
-
-pub made_table : (known : Known) (file : StagesValue) (target : ℕ) (made : TableValue) (line : Option ℕ) → target < length file.stages → made ≡ targeted file target → line ≡ lacking_line known made.stages → line ≡ None
-    → unless_refused (target_refusal known file target) (targeted file target) ≡ Ok made
-made_table known file target made line below is found none =
-    ap (λ (refusal : Option Rejection). unless_refused refusal (targeted file target))
-    (is_stage known file target made line below is found ∙ ap (option_map (λ (at : ℕ). record { reason = Coded R12; line = at })) none) ∙ ap Ok (sym is)
-
-pub lacking_table : (known : Known) (file : StagesValue) (target : ℕ) (made : TableValue) (line : Option ℕ) (at : ℕ) → target < length file.stages → made ≡ targeted file target → line ≡ lacking_line known made.stages → line ≡ Some at
-    → unless_refused (target_refusal known file target) (targeted file target) ≡ Err (record { reason = Coded R12; line = at })
-lacking_table known file target made line at below is found some =
-    ap (λ (refusal : Option Rejection). unless_refused refusal (targeted file target))
-    (is_stage known file target made line below is found ∙ ap (option_map (λ (at : ℕ). record { reason = Coded R12; line = at })) some)
-
-pub no_table : (known : Known) (file : StagesValue) (target : ℕ) → length file.stages ≤ target
-    → unless_refused (target_refusal known file target) (targeted file target) ≡ Err (record { reason = Coded R13; line = 0 })
-no_table known file target above = ap (λ (refusal : Option Rejection). unless_refused refusal (targeted file target)) (is_no_stage known file target above)
 
 -- what is answered after a table was made, or was refused
 

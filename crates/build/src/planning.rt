@@ -1,4 +1,4 @@
-ghost use Rattle.std.specs.Prelude.{◌≡◌, IfOk, Ok as OkOf};
+ghost use Rattle.std.specs.Prelude.{IfOk, Ok as OkOf};
 ghost use Rattle.plans.specs.Plan.{NeedsAll, problem_of};
 ghost use Rattle.plans.specs.Value.{Out};
 ghost use Rattle.solver.specs.Solution.{IsSolution};
