@@ -17,7 +17,7 @@ use Rattle.trees.specs.declared.meta.Meta.{Meta}
 use Rattle.trees.specs.Put.{clash_of, placed, put_into}
 use Rattle.trees.specs.TreeMap.{TreeMap, directory_meta, empty_tree, file_meta}
 use Rattle.trees.proofs.TreeLaws.{get-empty_tree, get-put}
-use Rattle.ignorefile.specs.Kept.{Kept, Touches}
+use Rattle.ignorefile.specs.Kept.{KeepsNothing, Kept, Touches}
 use Rattle.ignorefile.specs.declared.line.Line.{Line}
 use Rattle.packing.specs.Packed.{Asked, IsPlainEntry}
 use Rattle.packing.specs.Leaving.{AreApplied, Gathers, HasIgnore, IsAmong, IsPacked, Keeping, Kind, LeadsTo, LeavesWhole, MayStand, Place, Seen, Stands, FileKind, FolderKind, OtherKind, has_bytes, ignore_path, is_own, keeping_of}
@@ -357,6 +357,23 @@ whole_result_left keeping path false none packed left = whole_left keeping path 
   where
     out : IsTrue false → ⊥
     out h = cc
+
+-- where the lines keep nothing at or below a path
+pub whole_by_lines : (keeping : Keeping) (lines : List Line) (path : Place) → lines ≡ keeping.lines → is_own keeping.dockerfile path ≡ false → KeepsNothing lines path
+    → LeavesWhole keeping path
+whole_by_lines keeping lines path same own nothing = record {
+  own = own;
+  below = λ rest kept. nothing rest (subst (λ (ls : List Line). Kept ls (path ++ rest)) (sym same) kept);
+}
+
+pub whole_kept : (keeping : Keeping) (lines : List Line) (path given : Place) (own may : Bool) → lines ≡ keeping.lines → given ≡ path
+    → own ≡ is_own keeping.dockerfile given → own ≡ false → (may ≡ false → KeepsNothing lines path) → IsTrue (not may) → LeavesWhole keeping path
+whole_kept keeping lines path given own true same at is isnt nothing left = absurd (left_not left)
+  where
+    left_not : IsTrue (not true) → ⊥
+    left_not h = cc
+whole_kept keeping lines path given own false same at is isnt nothing left =
+    whole_by_lines keeping lines path same (subst (λ p. is_own keeping.dockerfile p ≡ false) at (sym is ∙ isnt)) (nothing refl)
 
 -- what is packed, where it isn't the ignore file's or the Dockerfile's path
 pub packed_else : (keeping : Keeping) (lines : List Line) (path : Place) (kept : Bool) → lines ≡ keeping.lines → is_own keeping.dockerfile path ≡ false

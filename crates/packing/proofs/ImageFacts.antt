@@ -1,14 +1,15 @@
 -- What JSON is an image, and which names images may have.
-use Rattle.std.proofs.Common.{◌≡◌, ◌≤◌, ◌++◌, ◌∙◌, ℕ, Bool, true, false, not, cond, List, [], ◌∷◌, Option, Some, None, Result, Vec, Global, refl, sym, ap, subst, arith, bytes_eq, is_some, unwrap_or, length, take, drop, take_all, ◌-◌}
-use Rattle.std.specs.Prelude.{◌||◌, slice_index_or}
+use Rattle.std.proofs.Common.{◌≡◌, ◌≤◌, ◌++◌, ◌∙◌, ℕ, Bool, true, false, not, cond, List, [], ◌∷◌, Option, Some, None, Result, Ok, Err, Vec, Global, String, string_bytes, rules, refl, sym, ap, subst, arith, bytes_eq, is_some, unwrap_or, length, take, drop, take_all, ◌-◌, codes}
+use Rattle.std.specs.Prelude.{◌||◌, slice_index_or, if◌then◌else◌, IfOk}
 use Rattle.std.specs.List.{list_all, list_any}
 use Rattle.std.specs.Option.{option_and_then, option_map}
 use Rattle.std.proofs.lemmas.Bool.{and_from, and_parts, not_from_false}
-use Rattle.serde_json.specs.Data.{Data, array, depth, no_items}
+use Rattle.serde_json.specs.Data.{Data, array, depth, no_items, string}
+use Rattle.serde_json.specs.Find.{as_array, as_str, get}
 use Rattle.serde_json.specs.Read.{read}
 use Rattle.serde_json.specs.View.{items_view, view}
 use Rattle.serde_json.specs.Written.{has_float}
-use Rattle.serde_json.specs.declared.value.Value.{Array, Value}
+use Rattle.serde_json.specs.declared.value.Value.{Array, String as Told, Value, the_lemmas}
 use Rattle.serde_json.proofs.Views.{view-Array}
 use Rattle.plain.specs.declared.fault.Fault.{Fault}
 use Rattle.plain.specs.declared.fault.Fault.TheVariants.{Because, Memory}
@@ -21,9 +22,15 @@ use Rattle.imageconfig.specs.Reading.{config_in}
 use Rattle.imageconfig.specs.declared.config.Config.{Config}
 use Rattle.scopes.specs.Scope.{names_differ}
 use Rattle.bundle.specs.declared.parts.ListedImage.{ListedImage}
-use Rattle.bundle.specs.Digest.{digest_in}
+use Rattle.bundle.specs.Digest.{digest_in, is_digest}
 use Rattle.bundle.specs.Parts.{image_in, image_with, is_image_name}
-use Rattle.packing.specs.Images.{are_names, given_in, if_image, image_data, image_of, is_even, is_image, most_depth, names_of}
+use Rattle.borrowed.specs.Lent.{items_data}
+use Rattle.borrowed.specs.Seen.{data_of}
+use Rattle.json.specs.declared.value.Value.{Value as Lent}
+use Rattle.packing.specs.Layout.{chosen, digest_at, layout_image, named_by, named_in}
+use Rattle.packing.specs.declared.layout.Named.{Named}
+use Rattle.packing.specs.declared.fault.PackFault.{PackFault}
+use Rattle.packing.specs.Images.{are_names, bare_image, config_data, given_in, if_image, image_data, image_of, is_even, is_image, most_depth, inspected, names_of, only_item}
 use Rattle.packing.specs.PrivateImages.{GivesJson, given_names, if_even, image_rows, is_among}
 use Rattle.packing.proofs.EvenFacts.{even_parts}
 
@@ -109,6 +116,195 @@ pub empty_list_is_read : (v : Vec Value Global) → v.items ≡ [] → is_some (
 empty_list_is_read v e =
     let at : view (Array v) ≡ array no_items = view-Array v ∙ ap (λ vs. array (items_view vs)) e in
     subst (λ d. is_some (listing_in d) ≡ true) (sym at) empty_is_read
+
+-- an image of a configuration that was read, without a digest and with the empty tree
+pub gives_bare : (result : Result Value (Fault NotRead)) (config : Data) (found : Config) (v : Vec Value Global) → v.items ≡ [] → config_in config ≡ Some found
+    → GivesJson result (if_even (image_data config None (view (Array v)))) → GivesJson result (if_image (bare_image config))
+gives_bare result config found v empty is gives =
+    let tree : view (Array v) ≡ array no_items = view-Array v ∙ ap (λ vs. array (items_view vs)) empty in
+    subst (λ t. GivesJson result (if_image (image_data config None t))) tree
+    (gives_read config None (view (Array v)) result config refl (ap is_some is) refl (empty_list_is_read v empty) gives)
+
+pub tells_bare : (config : Data) (e : Fault NotRead) → TellsFault e (config_in config) → TellsFault e (if_image (bare_image config))
+tells_bare config = tells_config config None (array no_items)
+
+-- ---- an image that was inspected
+
+pub tells_inspected : (e : Fault NotRead) (config : Option Data) → TellsFault e config → TellsFault e (option_and_then if_image (option_map bare_image config))
+tells_inspected (Because fault) config none = ap (λ o. option_and_then if_image (option_map bare_image o)) none
+tells_inspected Memory config none = tt
+
+-- the same, of what stands at the four keys
+abbrev inspected_of : Option Data → Option Data → Option Data → Option Data → Option Data
+inspected_of a c o l =
+    option_and_then (λ architecture. option_and_then (λ config. option_and_then (λ os. option_map (λ layers. config_data architecture config os layers) l) o) c) a
+
+no_config : (a o l : Option Data) → inspected_of a None o l ≡ None
+no_config None o l = refl
+no_config (Some a) o l = refl
+
+no_os : (a c l : Option Data) → inspected_of a c None l ≡ None
+no_os None c l = refl
+no_os (Some a) None l = refl
+no_os (Some a) (Some c) l = refl
+
+no_layers : (a c o : Option Data) → inspected_of a c o None ≡ None
+no_layers None c o = refl
+no_layers (Some a) None o = refl
+no_layers (Some a) (Some c) None = refl
+no_layers (Some a) (Some c) (Some o) = refl
+
+module _ (d : Data) where
+  abbrev a_at : Option Data
+  a_at = get (codes "Architecture") d
+
+  abbrev c_at : Option Data
+  c_at = get (codes "Config") d
+
+  abbrev o_at : Option Data
+  o_at = get (codes "Os") d
+
+  abbrev l_at : Option Data
+  l_at = option_and_then (get (codes "Layers")) (get (codes "RootFS") d)
+
+  pub tells_architecture : (e : Fault NotRead) → TellsFault e (get (codes "Architecture") d) → TellsFault e (inspected d)
+  unfolding inspected
+  tells_architecture (Because fault) none = ap (λ a. inspected_of a c_at o_at l_at) none
+  tells_architecture Memory none = tt
+
+  pub tells_inner_config : (e : Fault NotRead) → TellsFault e (get (codes "Config") d) → TellsFault e (inspected d)
+  unfolding inspected
+  tells_inner_config (Because fault) none = ap (λ c. inspected_of a_at c o_at l_at) none ∙ no_config a_at o_at l_at
+  tells_inner_config Memory none = tt
+
+  pub tells_os : (e : Fault NotRead) → TellsFault e (get (codes "Os") d) → TellsFault e (inspected d)
+  unfolding inspected
+  tells_os (Because fault) none = ap (λ o. inspected_of a_at c_at o l_at) none ∙ no_os a_at c_at l_at
+  tells_os Memory none = tt
+
+  pub tells_layers : (e : Fault NotRead) → TellsFault e (option_and_then (get (codes "Layers")) (get (codes "RootFS") d)) → TellsFault e (inspected d)
+  unfolding inspected
+  tells_layers (Because fault) none = ap (λ l. inspected_of a_at c_at o_at l) none ∙ no_layers a_at c_at o_at
+  tells_layers Memory none = tt
+
+  pub gives_inspected : (a c o l v : Data) → get (codes "Architecture") d ≡ Some a → get (codes "Config") d ≡ Some c → get (codes "Os") d ≡ Some o
+      → option_and_then (get (codes "Layers")) (get (codes "RootFS") d) ≡ Some l → v ≡ config_data a c o l → inspected d ≡ Some v
+  unfolding inspected
+  gives_inspected a c o l v is_a is_c is_o is_l is =
+      ap (λ x. inspected_of x c_at o_at l_at) is_a ∙ ap (λ x. inspected_of (Some a) x o_at l_at) is_c ∙ ap (λ x. inspected_of (Some a) (Some c) x l_at) is_o
+      ∙ ap (λ x. inspected_of (Some a) (Some c) (Some o) x) is_l ∙ ap (λ x. Some x) (sym is)
+
+-- ---- the image of a layout
+
+abbrev named_as : Bool → List ℕ → Named
+named_as is_config digest = record { is_config = is_config; digest = digest }
+
+pub names_image : (d images image : Data) (named : Named) → Some images ≡ get (codes "manifests") d → Some image ≡ option_and_then chosen (as_array images)
+    → digest_at (Some image) ≡ Some named.digest → named.is_config ≡ false → named_in d ≡ Some named
+unfolding named_in
+names_image d images image named found taken digest kind =
+    ap (named_by d) (sym found) ∙ ap (λ o. option_map (named_as false) (digest_at o)) (sym taken) ∙ ap (option_map (named_as false)) digest
+    ∙ ap (λ k. Some (named_as k named.digest)) (sym kind)
+
+pub names_config : (d config : Data) (named : Named) → None ≡ get (codes "manifests") d → Some config ≡ get (codes "config") d
+    → digest_at (Some config) ≡ Some named.digest → named.is_config ≡ true → named_in d ≡ Some named
+unfolding named_in
+names_config d config named none found digest kind =
+    ap (named_by d) (sym none) ∙ ap (λ o. option_map (named_as true) (digest_at o)) (sym found) ∙ ap (option_map (named_as true)) digest
+    ∙ ap (λ k. Some (named_as k named.digest)) (sym kind)
+
+pub names_image_result : (d images image : Data) (result : Result Named PackFault) → Some images ≡ get (codes "manifests") d
+    → Some image ≡ option_and_then chosen (as_array images) → IfOk result (λ named. (digest_at (Some image) ≡ Some named.digest) × (named.is_config ≡ false))
+    → IfOk result (λ named. named_in d ≡ Some named)
+names_image_result d images image (Ok named) found taken is = names_image d images image named found taken is.0 is.1
+names_image_result d images image (Err fault) found taken is = tt
+
+pub names_config_result : (d config : Data) (result : Result Named PackFault) → None ≡ get (codes "manifests") d → Some config ≡ get (codes "config") d
+    → IfOk result (λ named. (digest_at (Some config) ≡ Some named.digest) × (named.is_config ≡ true)) → IfOk result (λ named. named_in d ≡ Some named)
+names_config_result d config (Ok named) none found is = names_config d config named none found is.0 is.1
+names_config_result d config (Err fault) none found is = tt
+
+pub digest_of : (file value : Data) (digest : List ℕ) → Some value ≡ get (codes "digest") file → digest_in value ≡ Some digest → digest_at (Some file) ≡ Some digest
+digest_of file value digest found is = ap (option_and_then digest_in) (sym found) ∙ is
+
+pub view_text : (s : String Global) → view (Told s) ≡ string (string_bytes s)
+view_text s = search (rules, the_lemmas)
+
+digest_is : (text : List ℕ) → is_digest text ≡ true → digest_in (string text) ≡ Some text
+unfolding digest_in
+digest_is text is = rw is refl
+
+pub digest_is_read : (text : List ℕ) (digest : Data) → digest ≡ string text → is_digest text ≡ true → is_some (at_most_one digest_in (Some digest)) ≡ true
+digest_is_read text digest same is = rw (same, digest_is text is) refl
+
+pub digest_was_read : (d : Data) (text : List ℕ) → digest_in d ≡ Some text → is_digest text ≡ true
+unfolding digest_in
+digest_was_read d text e = go (as_str d) e
+  where
+    by : (found : List ℕ) (b : Bool) → is_digest found ≡ b → cond b (Some found) None ≡ Some text → is_digest text ≡ true
+    by found true is e = subst (λ t. is_digest t ≡ true) (ap (λ (o : Option (List ℕ)). unwrap_or o found) e) is
+    by found false is e = cc
+
+    go : (o : Option (List ℕ)) → option_and_then (λ found. if is_digest found then Some found else None) o ≡ Some text → is_digest text ≡ true
+    go None e = cc
+    go (Some found) e = by found (is_digest found) refl e
+
+pub digest_at_is : (file : Option Data) (text : List ℕ) → digest_at file ≡ Some text → is_digest text ≡ true
+digest_at_is file text e = go (option_and_then (get (codes "digest")) file) e
+  where
+    go : (o : Option Data) → option_and_then digest_in o ≡ Some text → is_digest text ≡ true
+    go None e = cc
+    go (Some d) e = digest_was_read d text e
+
+pub named_is : (d : Data) (named : Named) → named_in d ≡ Some named → is_digest named.digest ≡ true
+unfolding named_in
+named_is d named e = by (get (codes "manifests") d) e
+  where
+    some : (is_config : Bool) (found : Option (List ℕ)) → ((text : List ℕ) → found ≡ Some text → is_digest text ≡ true)
+        → option_map (λ digest. record { is_config = is_config; digest = digest }) found ≡ Some named → is_digest named.digest ≡ true
+    some is_config None all e = cc
+    some is_config (Some text) all e =
+        subst (λ (n : Named). is_digest n.digest ≡ true) (ap (λ (o : Option Named). unwrap_or o named) e) (all text refl)
+
+    by : (images : Option Data) → named_by d images ≡ Some named → is_digest named.digest ≡ true
+    by None e = some true (digest_at (get (codes "config") d)) (digest_at_is (get (codes "config") d)) e
+    by (Some images) e = some false (digest_at (option_and_then chosen (as_array images))) (digest_at_is (option_and_then chosen (as_array images))) e
+
+pub named_result : (d : Data) (result : Result Named PackFault) → IfOk result (λ named. named_in d ≡ Some named) → IfOk result (λ named. is_digest named.digest ≡ true)
+named_result d (Ok named) is = named_is d named is
+named_result d (Err fault) is = tt
+
+pub layout_is : (digest : List ℕ) (config : Option Data) (d : Data) → layout_image digest config ≡ Some d → is_image d ≡ true
+layout_is digest None d e = cc
+layout_is digest (Some config) d e = by (image_data config (Some (string digest)) (array no_items)) (is_image (image_data config (Some (string digest)) (array no_items))) refl e
+  where
+    by : (given : Data) (b : Bool) → is_image given ≡ b → cond b (Some given) None ≡ Some d → is_image d ≡ true
+    by given true is e = subst (λ x. is_image x ≡ true) (ap (λ (o : Option Data). unwrap_or o given) e) is
+    by given false is e = cc
+
+pub gives_layout : (result : Result Value (Fault NotRead)) (text : List ℕ) (digest : Data) (config : Data) (found : Option Data) (v : Vec Value Global) → v.items ≡ []
+    → digest ≡ string text → found ≡ Some config → GivesJson result (if_image (image_data config (Some digest) (view (Array v)))) → GivesJson result (layout_image text found)
+gives_layout result text digest config found v empty same is gives =
+    let tree : view (Array v) ≡ array no_items = view-Array v ∙ ap (λ vs. array (items_view vs)) empty in
+    subst (λ f. GivesJson result (layout_image text f)) (sym is)
+    (subst (λ t. GivesJson result (if_image (image_data config (Some (string text)) t))) tree
+    (subst (λ x. GivesJson result (if_image (image_data config (Some x) (view (Array v))))) same gives))
+
+pub tells_layout : (e : Fault NotRead) (text : List ℕ) (found : Option Data) → TellsFault e found → TellsFault e (layout_image text found)
+tells_layout (Because fault) text found none = ap (layout_image text) none
+tells_layout Memory text found none = tt
+
+-- ---- a list of one value
+
+pub only_of_one : {A : Type 0} (vs : List (Lent A)) (v : Lent A) → length vs ≡ 1 → v ≡ slice_index_or vs 0 v → Some (data_of v) ≡ only_item (items_data vs)
+only_of_one [] v one is = absurd (omega (arith, one))
+only_of_one (x ∷ []) v one is = ap (λ y. Some (data_of y)) is
+only_of_one (x ∷ y ∷ vs) v one is = absurd (omega (arith, one))
+
+pub only_of_others : {A : Type 0} (vs : List (Lent A)) → (length vs ≡ 1 → ⊥) → only_item (items_data vs) ≡ None
+only_of_others [] other = refl
+only_of_others (x ∷ []) other = absurd (other refl)
+only_of_others (x ∷ y ∷ vs) other = refl
 
 -- what a text gives is an image
 pub image_is : (text : List ℕ) (d : Data) → image_of text ≡ Some d → is_image d ≡ true

@@ -3,8 +3,8 @@ use Rattle.std.specs.Prelude.{◌≡◌, ℕ, Bool, not, ◌&&◌, List, [], ◌
 use Rattle.std.specs.FinMap.{find, get as image_at_name}
 use Rattle.std.specs.List.{list_all}
 use Rattle.std.specs.Option.{option_and_then, option_map}
-use Rattle.serde_json.specs.Data.{Data, array, depth, member, no_items, no_members, object}
-use Rattle.serde_json.specs.Find.{get}
+use Rattle.serde_json.specs.Data.{Data, Items, array, depth, item, member, no_items, no_members, object, string}
+use Rattle.serde_json.specs.Find.{as_array, get}
 use Rattle.serde_json.specs.Read.{read}
 use Rattle.serde_json.specs.Written.{has_float}
 use Rattle.paths.specs.Order.{name_cmp}
@@ -31,10 +31,46 @@ image_data config (Some digest) tree =
 abbrev pub image_at : Option Data → Option Data → Option Data → Option Data
 image_at config digest tree = option_and_then (λ config. option_map (λ tree. image_data config digest tree) tree) config
 
+-- an image of this configuration, without a digest and with the empty tree
+abbrev pub bare_image : Data → Data
+bare_image config = image_data config None (array no_items)
+
+-- a list's only value
+abbrev pub only_item : Items → Option Data
+only_item no_items = None
+only_item (item d no_items) = Some d
+only_item (item d (item e ds)) = None
+
+-- an image's configuration, of what stands at its keys (OCI image specification)
+abbrev pub root_data : Data → Data
+root_data layers = object (member (codes "diff_ids") layers (member (codes "type") (string (codes "layers")) no_members))
+
+abbrev pub config_data : Data → Data → Data → Data → Data
+config_data architecture config os layers =
+    object (member (codes "architecture") architecture (member (codes "config") config (member (codes "os") os (member (codes "rootfs") (root_data layers) no_members))))
+
+-- the configuration of an image that was inspected, whose values stand at other keys (Docker Engine API, inspect an image)
+unfoldable pub inspected : Data → Option Data
+inspected d =
+    option_and_then (λ architecture.
+    option_and_then (λ config.
+    option_and_then (λ os.
+    option_map (λ layers. config_data architecture config os layers)
+    (option_and_then (get (codes "Layers")) (get (codes "RootFS") d)))
+    (get (codes "Os") d))
+    (get (codes "Config") d))
+    (get (codes "Architecture") d)
+
+-- the configuration that a file's JSON gives: the JSON itself; of a list, as `docker image inspect` prints one, that of the only image in it
+abbrev pub config_among : Data → Option Items → Option Data
+config_among d None = Some d
+config_among d (Some ds) = option_and_then inspected (only_item ds)
+
 -- The JSON of the image that a file's JSON gives. With the key `tree` it has the configuration, the tree and the digest, if there is one, as a
--- bundle's image has, and may have the key `result`, as the answer of a build has. Without that key it is a configuration, and the tree is empty.
+-- bundle's image has, and may have the key `result`, as the answer of a build has. Without that key it is a configuration, or a list of one image that
+-- was inspected, and the tree is empty.
 abbrev pub given_at : Data → Option Data → Option Data
-given_at d None = Some (image_data d None (array no_items))
+given_at d None = option_map bare_image (config_among d (as_array d))
 given_at d (Some tree) =
     if is_some (strict (codes "config" ∷ codes "digest" ∷ codes "result" ∷ codes "tree" ∷ []) d)
     then image_at (get (codes "config") d) (get (codes "digest") d) (Some tree)

@@ -1,6 +1,7 @@
 pub mod Asked
 pub mod Ends
 pub mod Images
+pub mod Layout
 pub mod Leaving
 pub mod Packed
 pub mod PrivateFound
@@ -8,3 +9,4 @@ pub mod PrivateImages
 pub mod PrivateLeaving
 pub mod PrivatePacked
 pub mod PrivateWords
+pub mod Shown

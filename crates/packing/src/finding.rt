@@ -380,7 +380,7 @@ fn has_name<R: Files>(rt: &R, name: &str) -> bool {
 }
 
 /// The machine's name of what has this name in a folder.
-fn place_in(alloc: Global, folder: &str, name: &str) -> Result<String, PackFault>
+pub(crate) fn place_in(alloc: Global, folder: &str, name: &str) -> Result<String, PackFault>
     ensures { IfErr result IsBefore }
 {
     let mut place = String::from_str(alloc, folder)?;
@@ -459,7 +459,7 @@ fn note_other<R: Files>(
 }
 
 /// Whether a name leads to a file.
-fn is_file<R: Files>(rt: &R, name: &str) -> bool {
+pub(crate) fn is_file<R: Files>(rt: &R, name: &str) -> bool {
     match fs::metadata(rt, name) {
         Ok(found) => found.is_file(),
         Err(_) => false,

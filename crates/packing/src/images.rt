@@ -2,19 +2,24 @@
 // one copy of it.
 ghost use Rattle.std.specs.Prelude.{◌≡◌, None, Some, true, codes, is_some, IfOk};
 ghost use Rattle.std.specs.Option.{option_and_then, option_map};
-ghost use Rattle.serde_json.specs.Data.{array, no_items};
 ghost use Rattle.serde_json.specs.Find.{get};
 ghost use Rattle.serde_json.specs.Read.{read};
 ghost use Rattle.serde_json.specs.View.{view};
 ghost use Rattle.strict.specs.Gives.{Gives};
+ghost use Rattle.borrowed.specs.Lent.{items_data};
 ghost use Rattle.borrowed.specs.Seen.{data_of};
 ghost use Rattle.entries.specs.Listing.{listing_in};
+ghost use Rattle.bundle.specs.Digest.{is_digest};
 ghost use Rattle.bundle.specs.Parts.{is_image_name};
-ghost use Rattle.packing.specs.Images.{given_in, if_image, image_data, image_of};
+ghost use Rattle.packing.specs.Images.{bare_image, given_in, if_image, image_data, image_of, inspected, only_item};
+ghost use Rattle.packing.specs.Layout.{layout_image};
 ghost use Rattle.packing.specs.PrivateImages.{GivesConfig, GivesDigest, GivesJson, IsDigestRead, if_even, is_among};
+ghost use Rattle.packing.specs.PrivateWords.{data_words, words_of};
 
 use crate::even::is_even;
-use borrowed::{FromLent, FromLentKeyed, at, is_strict, owned};
+use crate::inspected::config_of_list;
+use crate::refusing::{A_MANIFEST, AN_INDEX, NO_IMAGE, NO_JSON, NOT_INSPECTED};
+use borrowed::{FromLent, FromLentKeyed, at, is_strict, list_of, owned};
 use bundle::read_digest;
 use entries::Listing;
 use imageconfig::Config;
@@ -44,18 +49,35 @@ pub(crate) fn read_image(alloc: Global, keys: RandomState, text: &str) -> Result
     }
 }
 
-/// Whether a text is JSON.
-pub(crate) fn is_json(alloc: Global, text: &str) -> Result<bool, Memory>
-    ensures { IfOk result (λ answer. answer ≡ is_some (read text.now)) }
+/// Why the text of a file that gives no image gives none.
+pub(crate) fn words_of(alloc: Global, text: &str) -> Result<&'static str, Memory>
+    ensures { IfOk result (λ words. words.now ≡ words_of (read text.now)) }
 {
     let mut scratch = Scratch::new(alloc);
     match borrowed::read(alloc, text, &mut scratch) {
         Ok(value) => {
+            let words = words_of_value(&value);
             drop(value);
-            Ok(true)
+            Ok(words)
         }
-        Err(Fault::Because(_)) => Ok(false),
+        Err(Fault::Because(_)) => Ok(NO_JSON),
         Err(Fault::Memory) => Err(Memory),
+    }
+}
+
+/// Why JSON that is no image is none.
+fn words_of_value(value: &Lent<'_>) -> &'static str
+    ensures { result.now ≡ data_words (data_of value.now) }
+{
+    if let Some(_) = list_of(value) {
+        return NOT_INSPECTED;
+    }
+    if let Some(_) = at(value, "manifests") {
+        return AN_INDEX;
+    }
+    match at(value, "layers") {
+        Some(_) => A_MANIFEST,
+        None => NO_IMAGE,
     }
 }
 
@@ -74,7 +96,42 @@ fn image_given(alloc: Global, keys: RandomState, value: &Lent<'_>) -> Result<Val
                 None => Err(Fault::Because(NotRead)),
             }
         }
-        None => image_without_tree(alloc, keys, value),
+        None => match list_of(value) {
+            Some(values) => image_inspected(alloc, keys, values),
+            None => image_without_tree(alloc, keys, value),
+        },
+    }
+}
+
+/// The image of which a list has been printed, as `docker image inspect` does.
+#[tactic(auto, using(crate::proofs::ImageFacts::tells_inspected))]
+fn image_inspected(
+    alloc: Global,
+    keys: RandomState,
+    values: &[Lent<'_>],
+) -> Result<Value, ReadFault>
+    ensures { GivesJson result (option_and_then if_image (option_map bare_image (option_and_then inspected (only_item (items_data values.now))))) }
+{
+    match config_of_list(alloc, values) {
+        Ok(config) => image_of_config(alloc, keys, config),
+        Err(fault) => Err(fault),
+    }
+}
+
+/// The image of a configuration, without a digest and with the empty tree.
+#[tactic(auto, using(crate::proofs::ImageFacts::gives_bare, crate::proofs::ImageFacts::tells_bare))]
+fn image_of_config(alloc: Global, keys: RandomState, config: Value) -> Result<Value, ReadFault>
+    ensures { GivesJson result (if_image (bare_image (view config))) }
+{
+    match Config::from_json(alloc, keys, &config) {
+        Ok(read) => {
+            drop(read);
+            even_image(alloc, config, None, Value::Array(Vec::new(alloc)))
+        }
+        Err(fault) => {
+            drop(config);
+            Err(fault)
+        }
     }
 }
 
@@ -158,9 +215,36 @@ fn image_without_tree(
     keys: RandomState,
     config: &Lent<'_>,
 ) -> Result<Value, ReadFault>
-    ensures { GivesJson result (if_image (image_data (data_of config.now) None (array no_items))) }
+    ensures { GivesJson result (if_image (bare_image (data_of config.now))) }
 {
     image_of_parts(alloc, keys, config, None, Value::Array(Vec::new(alloc)))
+}
+
+/// The image that a layout has, whose manifest has this digest and names the configuration that is the text of a file. `NotRead` where that is none.
+#[tactic(auto, using(crate::proofs::ImageFacts::digest_is_read, crate::proofs::ImageFacts::gives_layout, crate::proofs::ImageFacts::tells_layout))]
+pub(crate) fn read_layout_image(
+    alloc: Global,
+    keys: RandomState,
+    digest: Text,
+    text: &str,
+) -> Result<Value, ReadFault>
+    requires { is_digest digest ≡ true }
+    ensures { GivesJson result (layout_image digest (read text.now)) }
+{
+    let digest = Value::String(digest.into_string(alloc)?);
+    let mut scratch = Scratch::new(alloc);
+    match borrowed::read(alloc, text, &mut scratch) {
+        Ok(config) => {
+            let tree = Value::Array(Vec::new(alloc));
+            let image = image_of_parts(alloc, keys, &config, Some(digest), tree);
+            drop(config);
+            image
+        }
+        Err(fault) => {
+            drop(digest);
+            Err(fault)
+        }
+    }
 }
 
 /// The image of a configuration, and of a digest and a tree that are read.

@@ -7,10 +7,11 @@ ghost use Rattle.packing.specs.Images.{are_images, are_names, is_image, names_of
 ghost use Rattle.packing.specs.PrivateImages.{image_rows, given_names};
 
 use crate::PackFault;
-use crate::finding::bytes_of;
-use crate::images::{is_among, is_image_name, is_json, read_image};
+use crate::finding::{bytes_of, is_file, place_in};
+use crate::images::{is_among, is_image_name, read_image, words_of};
+use crate::layout::{INDEX, read_layout};
 use crate::refusing::{
-    NAMED_TWICE, NO_FILE_OF_IMAGE, NO_IMAGE, NO_IMAGE_NAME, NO_JSON, TOO_LARGE, refuse,
+    NAMED_TWICE, NO_FILE_OF_IMAGE, NO_IMAGE_NAME, NO_JSON, NO_LAYOUT, TOO_LARGE, refuse,
     refuse_error,
 };
 use plain::limits::MOST_BUNDLE_BYTES;
@@ -98,7 +99,7 @@ fn read_row<R: Files + AllocGlobal>(
     }
 }
 
-/// The JSON of the image that a file holds, which may be given by a link.
+/// The JSON of the image that a file holds or a folder has as its layout. Either may be given by a link.
 fn read_file<R: Files + AllocGlobal>(
     rt: &R,
     alloc: Global,
@@ -110,17 +111,57 @@ fn read_file<R: Files + AllocGlobal>(
     ensures image { IfOk result (λ image. is_image (view image) ≡ true) }
 {
     let place = file.as_str();
+    if is_folder(rt, place) {
+        return read_folder(rt, alloc, keys, place, notes);
+    }
+    let bytes = file_bytes(rt, alloc, place, notes)?;
+    let image = image_of_bytes(alloc, keys, place, &bytes, notes);
+    drop(bytes);
+    image
+}
+
+/// The JSON of the image that a folder has as its layout.
+fn read_folder<R: Files + AllocGlobal>(
+    rt: &R,
+    alloc: Global,
+    keys: RandomState,
+    folder: &str,
+    notes: &mut Text,
+) -> Result<Value, PackFault>
+    ensures before { IfErr result IsBefore }
+    ensures image { IfOk result (λ image. is_image (view image) ≡ true) }
+{
+    let index = place_in(alloc, folder, INDEX)?;
+    if !is_file(rt, index.as_str()) {
+        return Err(refuse(alloc, notes, folder, NO_LAYOUT));
+    }
+    drop(index);
+    read_layout(rt, alloc, keys, folder, notes)
+}
+
+/// Whether a name leads to a folder.
+fn is_folder<R: Files>(rt: &R, name: &str) -> bool {
+    match fs::metadata(rt, name) {
+        Ok(found) => found.is_dir(),
+        Err(_) => false,
+    }
+}
+
+/// The bytes of a file of an image, which may be given by a link.
+pub(crate) fn file_bytes<R: Files + AllocGlobal>(
+    rt: &R,
+    alloc: Global,
+    place: &str,
+    notes: &mut Text,
+) -> Result<Bytes, PackFault>
+    ensures { IfErr result IsBefore }
+{
     match fs::metadata(rt, place) {
         Ok(found) if !found.is_file() => Err(refuse(alloc, notes, place, NO_FILE_OF_IMAGE)),
         Ok(found) if found.len() > MOST_BUNDLE_BYTES as u64 => {
             Err(refuse(alloc, notes, place, TOO_LARGE))
         }
-        Ok(_) => {
-            let bytes = bytes_of(rt, alloc, place, notes)?;
-            let image = image_of_bytes(alloc, keys, place, &bytes, notes);
-            drop(bytes);
-            image
-        }
+        Ok(_) => bytes_of(rt, alloc, place, notes),
         Err(error) => Err(refuse_error(alloc, notes, place, &error)),
     }
 }
@@ -140,9 +181,8 @@ fn image_of_bytes(
         Ok(text) => match read_image(alloc, keys, text) {
             Ok(image) => Ok(image),
             Err(Fault::Memory) => Err(PackFault::Memory),
-            Err(Fault::Because(_)) => match is_json(alloc, text) {
-                Ok(true) => Err(refuse(alloc, notes, place, NO_IMAGE)),
-                Ok(false) => Err(refuse(alloc, notes, place, NO_JSON)),
+            Err(Fault::Because(_)) => match words_of(alloc, text) {
+                Ok(words) => Err(refuse(alloc, notes, place, words)),
                 Err(_) => Err(PackFault::Memory),
             },
         },

@@ -121,8 +121,9 @@ impl Leaving {
         requires { at.now.lines ≡ self.now.lines }
         ensures { IsTrue result → LeavesWhole self.now at.now.path }
     {
+        // Where no line is an exception there is no need to try them.
         if self.may_except {
-            return false;
+            return !self.is_own(at.path()) && !at.may_keep();
         }
         !self.packs(at)
     }

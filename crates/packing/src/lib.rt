@@ -20,11 +20,15 @@ mod finding;
 mod folder;
 mod images;
 mod imaging;
+mod inspected;
 pub mod laws;
+mod layout;
 mod leaving;
 mod members;
+mod naming;
 mod packing;
 mod refusing;
+mod shown;
 mod walking;
 
 pub use asked::PackOptions;

@@ -4,6 +4,7 @@ ghost use Rattle.packing.specs.Ends.{IsBefore};
 ghost use Rattle.packing.specs.PrivateWords.{Notes, shown};
 
 use crate::PackFault;
+use crate::shown::shown_bytes;
 use plain::{Fault, Memory, Text};
 use std::alloc::Global;
 use std::io;
@@ -15,6 +16,8 @@ pub(crate) const LINK: &str =
 
 pub(crate) const LINK_KEPT: &str =
     " is a link: leave it out by a line of the ignore file, or put what it leads to in its place";
+
+pub(crate) const OWN_LINK: &str = " is a link: put the file that it leads to in its place";
 
 pub(crate) const NO_FILE: &str =
     " is neither a file nor a folder: leave it out by a line of .dockerignore and --apply-ignore, or remove it";
@@ -41,7 +44,7 @@ pub(crate) const IN_THE_WAY: &str =
 pub(crate) const BAD_NAME: &str =
     " holds an entry whose name is not UTF-8 or is too long: rename that entry";
 
-const NO_UTF8: &str = " has a name that is not UTF-8 or is too long: rename it";
+pub(crate) const NO_UTF8: &str = " has a name that is not UTF-8 or is too long: rename it";
 
 pub(crate) const MISSING: &str =
     " does not exist, or is a link that leads to nothing: name what exists";
@@ -60,7 +63,8 @@ pub(crate) const NO_IMAGE_NAME: &str =
 pub(crate) const NAMED_TWICE: &str =
     " is given for an image that is given again: give each image one file";
 
-pub(crate) const NO_FILE_OF_IMAGE: &str = " is no file: name the file of an image";
+pub(crate) const NO_FILE_OF_IMAGE: &str =
+    " is neither a file nor a folder: name the file of an image, or the folder of its layout";
 
 pub(crate) const TOO_LARGE: &str =
     " has more than 67,108,864 bytes, which no bundle may have: leave some of its files out";
@@ -70,6 +74,36 @@ pub(crate) const NO_JSON: &str =
 
 pub(crate) const NO_IMAGE: &str =
     " is no image: it needs architecture, os and rootfs, or config and tree";
+
+pub(crate) const NOT_INSPECTED: &str =
+    " is a list, but none of one image that was inspected: it needs Architecture, Os, Config and RootFS.Layers";
+
+pub(crate) const AN_INDEX: &str = " is an index of images: name the folder of its layout";
+
+pub(crate) const A_MANIFEST: &str = " is a manifest of an image: name the folder of its layout";
+
+pub(crate) const NO_LAYOUT: &str =
+    " is a folder without index.json: name the folder of an image's layout, or a file";
+
+pub(crate) const NO_LAYOUT_JSON: &str = " is no JSON: copy the image into its layout again";
+
+pub(crate) const NO_INDEX: &str =
+    " is no index, which lists manifests: copy the image into its layout again";
+
+pub(crate) const NO_MANIFEST: &str =
+    " is neither an index nor a manifest: copy the image into its layout again";
+
+pub(crate) const NO_PLATFORM: &str =
+    " lists no image of linux/amd64, and not one alone: copy that of one platform into a layout";
+
+pub(crate) const INNER_INDEX: &str =
+    " is an index in an index that index.json names: copy the image of one platform into a layout";
+
+pub(crate) const NO_DIGEST: &str =
+    " names a file without a digest: copy the image into its layout again";
+
+pub(crate) const NO_CONFIG: &str =
+    " is no configuration of an image: it needs architecture, os and rootfs";
 
 const UNREADABLE: &str = " cannot be read: make it readable, or leave it out";
 
@@ -124,27 +158,27 @@ pub(crate) fn refuse_error(
     }
 }
 
-/// The same, where the machine didn't give the next entry of the folder at this place.
-pub(crate) fn refuse_entry(
-    alloc: Global,
-    notes: &mut Text,
-    place: &str,
-    error: &io::Error,
-) -> PackFault
-    ensures { IsBefore result }
-{
-    match error.kind() {
-        ErrorKind::InvalidFilename => refuse(alloc, notes, place, BAD_NAME),
-        _ => refuse_error(alloc, notes, place, error),
-    }
-}
-
 /// The same, where an ignore file at this place has a bad line of this number.
 pub(crate) fn refuse_line(alloc: Global, notes: &mut Text, place: &str, number: usize) -> PackFault
     ensures { IsBefore result }
 {
     match format!(in alloc; " has a malformed line, {number}: mend it") {
         Ok(what) => refuse(alloc, notes, place, what.as_str()),
+        Err(_) => PackFault::Memory,
+    }
+}
+
+/// The same, where a file of an image's layout at this place names another one by what is no digest.
+pub(crate) fn refuse_digest(alloc: Global, notes: &mut Text, place: &str, digest: &str) -> PackFault
+    ensures { IsBefore result }
+{
+    match shown_bytes(alloc, digest.as_bytes()) {
+        Ok(digest) => match format!(in alloc;
+            " names the file {digest}, which is not sha256: with 64 hexadecimal digits: copy the image into its layout again"
+        ) {
+            Ok(what) => refuse(alloc, notes, place, what.as_str()),
+            Err(_) => PackFault::Memory,
+        },
         Err(_) => PackFault::Memory,
     }
 }

@@ -9,8 +9,9 @@ use crate::PackFault;
 use crate::finding::bytes_of;
 use crate::folder::Folder;
 use crate::leaving::Leaving;
+use crate::naming::refuse_entry;
 use crate::refusing::{
-    CHANGED, TOO_DEEP, TOO_MANY, refuse, refuse_entry, refuse_error, refuse_fault,
+    CHANGED, NO_PLAIN_FILE, OWN_LINK, TOO_DEEP, TOO_MANY, refuse, refuse_error, refuse_fault,
 };
 use ignorefile::{Decided, FolderLines};
 use paths::Path;
@@ -122,7 +123,7 @@ fn read_rows<'a, R: Files + AllocGlobal + Clone + Drop>(
                     Ok(row) => {
                         read_row(rt, alloc, &row, path, lines, leaving, found, left, notes)?
                     }
-                    Err(error) => return Err(refuse_entry(alloc, notes, place, &error)),
+                    Err(error) => return Err(refuse_entry(rt, alloc, notes, place, &error)),
                 }
             }
             Ok(())
@@ -235,7 +236,11 @@ fn pass_over(
     requires { IsPacked leaving.now path.now }
     ensures { TakesAs leaving.now path.now OtherKind result found.old found.new }
 {
-    if leaving.is_own(path) || !leaving.passes() {
+    if leaving.is_own(path) {
+        let what = if is_link { OWN_LINK } else { NO_PLAIN_FILE };
+        return Err(refuse(alloc, notes, place, what));
+    }
+    if !leaving.passes() {
         return Err(refuse(alloc, notes, place, leaving.words(is_link)));
     }
     found.pass_over(place)?;

@@ -175,6 +175,23 @@ row 'an image without a sign of equality' 2 '' '*' pack "$here/examples/folder" 
 row 'an image that is missing' 3 '' "cannot pack: $work/missing does not exist, or is a link that leads to nothing: name what exists" pack "$here/examples/folder" --image a="$work/missing"
 printf "{" >"$work/broken"
 row 'an image that is no image' 3 '' "cannot pack: $work/broken is no JSON: put the JSON of an image or of its configuration in it" pack "$here/examples/folder" --image a="$work/broken"
+mkdir -p "$work/layout/blobs/sha256"
+row 'an image of a folder that is no layout' 3 '' "cannot pack: $work/layout is a folder without index.json: name the folder of an image's layout, or a file" pack "$here/examples/folder" --image a="$work/layout"
+blob() {
+    printf '%s' "$1" >"$work/blob"
+    digest=$(sha256sum <"$work/blob")
+    digest=${digest%% *}
+    mv "$work/blob" "$work/layout/blobs/sha256/$digest"
+}
+blob "$config"
+blob '{"config":{"digest":"sha256:'"$digest"'"},"layers":[]}'
+printf '{"manifests":[{"digest":"sha256:%s"}]}' "$digest" >"$work/layout/index.json"
+ln -s layout "$work/layout.link"
+row 'an image of a layout, by a link' 0 "$context${dockerfile%\}},\"images\":{\"a\":{\"config\":$config,\"digest\":\"sha256:$digest\",\"tree\":[]}}}" '' pack "$here/examples/folder" --image a="$work/layout.link"
+rm "$work/layout/blobs/sha256/$digest"
+row 'an image of a layout without its manifest' 3 '' "cannot pack: $work/layout/blobs/sha256/$digest does not exist, or is a link that leads to nothing: name what exists" pack "$here/examples/folder" --image a="$work/layout"
+mkfifo "$work/image.pipe"
+row 'an image that is a pipe' 3 '' "cannot pack: $work/image.pipe is neither a file nor a folder: name the file of an image, or the folder of its layout" pack "$here/examples/folder" --image a="$work/image.pipe"
 truncate -s 67108865 "$work/large"
 row 'an image that is too large' 3 '' "cannot pack: $work/large has more than 67,108,864 bytes, which no bundle may have: leave some of its files out" pack "$here/examples/folder" --image a="$work/large"
 printf '%s' "$image" >"$work/kept"
@@ -239,7 +256,14 @@ mkfifo "$work/piped/pipe"
 row 'a pipe in a folder' 3 '' "cannot pack: $work/piped/pipe is neither a file nor a folder: $kept remove it" pack "$work/piped"
 folder named
 : >"$work/named/"$'\xff'
-row 'a name that is no UTF-8' 3 '' "cannot pack: $work/named/ holds an entry whose name is not UTF-8 or is too long: rename that entry" pack "$work/named"
+row 'a name that is no UTF-8' 3 '' "cannot pack: $work/named/\\xff has a name that is not UTF-8 or is too long: rename it" pack "$work/named"
+mkdir "$work/named/d"
+mv "$work/named/"$'\xff' "$work/named/d/a"$'\xc3\x1b'
+row 'a name that is no UTF-8, in a folder' 3 '' "cannot pack: $work/named/d/a\\xc3\\x1b has a name that is not UTF-8 or is too long: rename it" pack "$work/named"
+folder owned
+ln -s kept "$work/owned/.dockerignore"
+printf 'n\n' >"$work/owned/kept"
+row 'an ignore file that is a link' 3 '' "cannot pack: $work/owned/.dockerignore is a link: put the file that it leads to in its place" pack "$work/owned" --apply-ignore
 folder deep
 far=$(printf '/d%.0s' $(seq 64))
 mkdir -p "$work/deep$far"
@@ -258,6 +282,12 @@ printf 'n\n' >"$work/ignoring/.dockerignore"
 row 'a link in a folder that is left out' 0 '*' '' pack "$work/ignoring" --apply-ignore
 printf 'n\n!n/k\n' >"$work/ignoring/.dockerignore"
 row 'a link in a folder that may hold an exception' 0 '*' '' pack "$work/ignoring" --apply-ignore
+mkdir "$work/ignoring/m"
+ln -s k "$work/ignoring/m/link"
+: >"$work/ignoring/m/"$'\xff'
+printf 'n\nm\n!n/k\n' >"$work/ignoring/.dockerignore"
+row 'a folder that is left out beside one that may hold an exception' 0 '*' '' pack "$work/ignoring" --apply-ignore
+rm -r "$work/ignoring/m"
 printf '!n/link\n' >"$work/ignoring/.dockerignore"
 row 'a link that is kept' 3 '' "cannot pack: $work/ignoring/n/link is a link: leave it out by a line of the ignore file, or put what it leads to in its place" pack "$work/ignoring" --apply-ignore
 folder astray
