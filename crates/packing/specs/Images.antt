@@ -41,10 +41,11 @@ only_item no_items = None
 only_item (item d no_items) = Some d
 only_item (item d (item e ds)) = None
 
--- an image's configuration, of what stands at its keys (OCI image specification)
+-- what stands at the key `rootfs` of an image's configuration, of its layers (OCI image specification)
 abbrev pub root_data : Data → Data
 root_data layers = object (member (codes "diff_ids") layers (member (codes "type") (string (codes "layers")) no_members))
 
+-- an image's configuration, of what stands at its keys (OCI image specification)
 abbrev pub config_data : Data → Data → Data → Data → Data
 config_data architecture config os layers =
     object (member (codes "architecture") architecture (member (codes "config") config (member (codes "os") os (member (codes "rootfs") (root_data layers) no_members))))

@@ -7,11 +7,12 @@ use Rattle.bundle.specs.Digest.{digest_in}
 use Rattle.packing.specs.Images.{if_image, image_data, only_item}
 use Rattle.packing.specs.declared.layout.Named.{Named}
 
--- a value is this text
+-- what was found is this text
 abbrev pub is_same : List ℕ → Option (List ℕ) → Bool
 is_same text None = false
 is_same text (Some found) = bytes_eq found text
 
+-- a value is this text
 abbrev pub is_text : List ℕ → Option Data → Bool
 is_text text value = is_same text (option_and_then as_str value)
 
@@ -33,12 +34,13 @@ chosen ds = option_or (first_of_platform ds) (only_item ds)
 abbrev pub digest_at : Option Data → Option (List ℕ)
 digest_at file = option_and_then digest_in (option_and_then (get (codes "digest")) file)
 
--- what a file of a layout names: an index the image that is taken, and a manifest its configuration
+-- what a file of a layout names, by what stands at the key `manifests`: an index the image that is taken, and a manifest its configuration
 abbrev pub named_by : Data → Option Data → Option Named
 named_by d (Some images) =
     option_map (λ digest. record { is_config = false; digest = digest }) (digest_at (option_and_then chosen (as_array images)))
 named_by d None = option_map (λ digest. record { is_config = true; digest = digest }) (digest_at (get (codes "config") d))
 
+-- what a file of a layout names
 unfoldable pub named_in : Data → Option Named
 named_in d = named_by d (get (codes "manifests") d)
 

@@ -16,7 +16,7 @@ Notes Ended notes text = notes ≡ text
 Notes Memory notes text = ⊤
 Notes Device notes text = ⊥
 
--- why a file gives no image, by the JSON that it has
+-- why JSON is no image, and what helps
 abbrev pub data_words : Data → List ℕ
 data_words d =
     if is_some (as_array d) then codes " is a list, but none of one image that was inspected: it needs Architecture, Os, Config and RootFS.Layers"
@@ -24,6 +24,7 @@ data_words d =
     else if is_some (get (codes "layers") d) then codes " is a manifest of an image: name the folder of its layout"
     else codes " is no image: it needs architecture, os and rootfs, or config and tree"
 
+-- why a file gives no image, by the JSON that it has, if it has some
 abbrev pub words_of : Option Data → List ℕ
 words_of None = codes " is no JSON: put the JSON of an image or of its configuration in it"
 words_of (Some d) = data_words d

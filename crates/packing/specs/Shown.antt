@@ -11,5 +11,6 @@ is_seen byte = nat_le 32 byte && nat_le byte 126
 abbrev pub shown_byte : ℕ → List ℕ
 shown_byte byte = if is_seen byte then encode_utf8 byte else codes "\\x" ++ encode_lower (byte ∷ [])
 
+-- bytes one after another, each as it is shown
 abbrev pub shown_bytes : List ℕ → List ℕ
 shown_bytes bytes = flat_map shown_byte bytes
