@@ -48,6 +48,13 @@ impl Context {
         Ok(Context { tree })
     }
 
+    /// The context whose tree this is, as it stands: for who has a tree that was filtered before, such as a bundle's.
+    pub fn of_tree(tree: Tree) -> Context
+        ensures { result ≡ tree }
+    {
+        Context { tree }
+    }
+
     /// The tree, lent.
     pub fn tree(&self) -> &Tree
         ensures { result.now ≡ self.now }
