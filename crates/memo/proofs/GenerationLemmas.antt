@@ -1,10 +1,10 @@
 -- What is kept of the entries of a generation stays the same if more is kept.
-use Rattle.std.proofs.Common.{◌≡◌, ◌∙◌, ◌+◌, ◌<◌, ◌≤◌, ◌⊎◌, inl, inr, ℕ, zero, suc, List, [], ◌∷◌, ◌++◌, length, map, get_or, Option, Some, None, Ok, Err, Result, IfOk, IfNone, OnOk, OnErr, refl, sym, ap, subst, arith}
+use Rattle.std.proofs.Common.{◌≡◌, ◌∙◌, ◌+◌, ◌<◌, ◌≤◌, ◌⊎◌, inl, inr, ℕ, zero, suc, List, [], ◌∷◌, ◌++◌, length, map, take, get_or, Option, Some, None, Ok, Err, Result, IfOk, IfNone, OnOk, OnErr, refl, sym, ap, subst, arith}
 use Rattle.std.specs.Prelude.{IfSome, slice_get, slice_index_or}
 use Rattle.std.specs.List.{Contains}
-use Rattle.std.proofs.lemmas.List.{append-nil, append_assoc, get_or_append_left, get_or_default, map_push, length-append}
-use Rattle.std.proofs.lemmas.Option.{get_or_from_slice_get}
-use Rattle.std.proofs.Math.Seq.{get_or-append_seam}
+use Rattle.std.proofs.lemmas.List.{append-nil, append_assoc, get_or_append_left, get_or_default, map_push, length-append, map-append}
+use Rattle.std.proofs.lemmas.Option.{get_or_from_slice_get, slice_get_within}
+use Rattle.std.proofs.Math.Seq.{get_or-append_seam, take-suc}
 use Rattle.trees.specs.TreeMap.{TreeMap, empty_tree}
 use Rattle.llb.specs.declared.op.Op.{Op}
 use Rattle.memo.specs.declared.step.Step.{Step}
@@ -243,3 +243,16 @@ added-placed old new steps after step (Ok x) more are is ok = subst (ArePlaced (
 pub ok-more : {X Y : Type 0} (P Q : X → Type 0) (result : Result X Y) → ((x : X) → P x → Q x) → IfOk result P → IfOk result Q
 ok-more P Q (Ok x) more is = more x is
 ok-more P Q (Err y) more is = is
+
+-- ---- one tree after another
+
+-- the trees of the numbers so far are those so far, and so they are with the next one
+pub next-at : (kept : List TreeMap) (numbers : List ℕ) (trees : List TreeMap) (at : ℕ) (tree : TreeMap) → at < length numbers → slice_get trees at ≡ Some tree
+    → tree_at kept (get_or numbers at 0) ≡ tree → trees_at kept (take at numbers) ≡ take at trees → trees_at kept (take (at + 1) numbers) ≡ take (at + 1) trees
+next-at kept numbers trees at tree below there same before =
+    let more : suc at ≡ at + 1 = omega arith in
+    let last : get_or trees at empty_tree ≡ tree = get_or_from_slice_get trees at tree empty_tree there in
+    subst (λ n. trees_at kept (take n numbers) ≡ take n trees) more
+    (ap (trees_at kept) (take-suc numbers at 0 below) ∙ map-append (tree_at kept) (take at numbers) (get_or numbers at 0 ∷ [])
+    ∙ ap (λ ts. ts ++ (tree_at kept (get_or numbers at 0) ∷ [])) before ∙ ap (λ t. take at trees ++ (t ∷ [])) (same ∙ sym last)
+    ∙ sym (take-suc trees at empty_tree (slice_get_within trees at tree there)))

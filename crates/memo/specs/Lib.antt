@@ -5,3 +5,4 @@ pub mod Memo
 pub mod Numbers
 pub mod PrivateGeneration
 pub mod PrivateIndex
+pub mod PrivateSought

@@ -2,6 +2,7 @@ ghost use Rattle.std.specs.Prelude.{◌≡◌, ◌<◌, ◌++◌, ◌∷◌, [],
 ghost use Rattle.memo.specs.Key.{key_of};
 ghost use Rattle.memo.specs.Memo.{entry_of, Has, Lacks};
 ghost use Rattle.memo.specs.PrivateGeneration.{tree_at, trees_at, entry_at, entries_at, AreBelow, IsPlaced, ArePlaced, IsIndexed, IsMore, AddsTo, AreAt, Tells};
+ghost use Rattle.memo.specs.PrivateSought.{inputs_of};
 
 use crate::Hit;
 use crate::index::Index;
@@ -69,12 +70,12 @@ impl Generation {
     /// What is there of an operation on these trees, as `find_hit` finds it. The key is the operation's. It takes no memory.
     pub(crate) fn find(&self, key: u64, sought: &Sought, age: Age, walks: bool) -> Option<Hit<'_>>
         requires key { key ≡ key_of sought.now.op.now }
-        requires known { Tells age self.now.trees sought.now.known.now (map (λ lent. lent.now) sought.now.inputs.now) }
-        ensures found { IfSome result (λ hit. Has self.now.entries sought.now.op.now (map (λ lent. lent.now) sought.now.inputs.now) hit.tree.now) }
+        requires known { Tells age self.now.trees sought.now.known.now (inputs_of sought.now) }
+        ensures found { IfSome result (λ hit. Has self.now.entries sought.now.op.now (inputs_of sought.now) hit.tree.now) }
         ensures age { IfSome result (λ hit. hit.age ≡ age) }
         ensures number { IfSome result (λ hit. slice_get self.now.trees hit.number ≡ Some hit.tree.now) }
-        ensures inputs { IfSome result (λ hit. AreAt self.now.trees hit.inputs.now (map (λ lent. lent.now) sought.now.inputs.now)) }
-        ensures none { IsTrue walks → IfNone result (Lacks self.now.entries sought.now.op.now (map (λ lent. lent.now) sought.now.inputs.now)) }
+        ensures inputs { IfSome result (λ hit. AreAt self.now.trees hit.inputs.now (inputs_of sought.now)) }
+        ensures none { IsTrue walks → IfNone result (Lacks self.now.entries sought.now.op.now (inputs_of sought.now)) }
     {
         find_hit(
             self.trees.as_slice(),

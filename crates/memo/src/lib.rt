@@ -13,8 +13,9 @@
 //
 // ```
 // let mut memo = Memo::new(alloc, &executor);
-// memo.add(alloc, &vertex.op, &[&root], &tree)?;
-// match memo.find(&vertex.op, &[&root]) {        // the tree, also in a later build
+// let inputs = [root];
+// memo.add(alloc, &vertex.op, &[&inputs[0]], &tree)?;
+// match memo.find(&vertex.op, &inputs) {         // the tree, also in a later build
 //     Some(tree) => ..,
 //     None => ..,
 // }

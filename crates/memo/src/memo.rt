@@ -6,6 +6,7 @@ ghost use Rattle.memo.specs.Kept.{Keeps, KeepsAll, kept_tree, kept_trees};
 ghost use Rattle.memo.specs.Key.{key_of};
 ghost use Rattle.memo.specs.Memo.{entry_of, new_memo, no_generation, with_kept, Has, IsLawful, AreLawful, Holds, Adds};
 ghost use Rattle.memo.specs.Numbers.{generation_of, numbered, tree_numbered, AreKnown, HaveNumbers};
+ghost use Rattle.memo.specs.PrivateSought.{inputs_of};
 
 use crate::Hit;
 use crate::content::count_trees;
@@ -117,19 +118,27 @@ impl<'a, E: Executor> Memo<'a, E> {
 
     /// The tree that was added for an equal operation on equal trees; `None` exactly if there is none. It is what the operation gives on them, whatever
     /// the sources are. It takes no memory.
-    pub fn find(&self, op: &Op, inputs: &[&Tree]) -> Option<&Tree>
-        ensures found { IfSome result (λ tree. Holds self.now op.now (map (λ lent. lent.now) inputs.now) tree.now) }
-        ensures none { IfNone result ((tree : TreeMap) → ¬ Holds self.now op.now (map (λ lent. lent.now) inputs.now) tree) }
-        ensures lawful { IfSome result (λ tree. IsLawful (E.out self.now.executor) (entry_of op.now (map (λ lent. lent.now) inputs.now) tree.now)) }
+    pub fn find(&self, op: &Op, inputs: &[Tree]) -> Option<&Tree>
+        ensures found { IfSome result (λ tree. Holds self.now op.now inputs.now tree.now) }
+        ensures none { IfNone result ((tree : TreeMap) → ¬ Holds self.now op.now inputs.now tree) }
+        ensures lawful { IfSome result (λ tree. IsLawful (E.out self.now.executor) (entry_of op.now inputs.now tree.now)) }
     {
-        match self.find_known(op, inputs, &[]) {
+        let _known = self.executor();
+        let sought = Sought {
+            op,
+            listed: inputs,
+            each: &[],
+            known: &[],
+        };
+        match self.found(&sought) {
             Some(hit) => Some(hit.tree),
             None => None,
         }
     }
 
-    /// The same, and it gives the numbers of all these trees. Of some of the inputs, by their places, the number may be known: such a one is compared by its
-    /// number, and only another one by all that it has, unless the numbers alone tell. Equal inputs are found whether their numbers are known or not.
+    /// The same of trees that are lent one by one, and it gives the numbers of all these trees. Of some of the inputs, by their places, the number may be
+    /// known: such a one is compared by its number, and only another one by all that it has, unless the numbers alone tell. Equal inputs are found whether
+    /// their numbers are known or not.
     ///
     /// So who keeps the numbers of what it found walks only trees that are new to it.
     pub fn find_known(
@@ -146,36 +155,41 @@ impl<'a, E: Executor> Memo<'a, E> {
         ensures lawful { IfSome result (λ hit. IsLawful (E.out self.now.executor) (entry_of op.now (map (λ lent. lent.now) inputs.now) hit.tree.now)) }
     {
         let _known = self.executor();
-        match self.found(op, inputs, known) {
+        let sought = Sought {
+            op,
+            listed: &[],
+            each: inputs,
+            known,
+        };
+        match self.found(&sought) {
             Some(hit) => Some(hit),
             None => None,
         }
     }
 
-    /// What it has for an operation on these trees: first by numbers alone, and then by a walk.
-    fn found(&self, op: &Op, inputs: &[&Tree], known: &[Option<TreeNumber>]) -> Option<Hit<'_>>
-        requires { AreKnown self.now known.now (map (λ lent. lent.now) inputs.now) }
-        ensures found { IfSome result (λ hit. Holds self.now op.now (map (λ lent. lent.now) inputs.now) hit.tree.now) }
+    /// What it has of what is asked for: first by numbers alone, and then by a walk.
+    fn found(&self, sought: &Sought) -> Option<Hit<'_>>
+        requires { AreKnown self.now sought.now.known.now (inputs_of sought.now) }
+        ensures found { IfSome result (λ hit. Holds self.now sought.now.op.now (inputs_of sought.now) hit.tree.now) }
         ensures number { IfSome result (λ hit. tree_numbered self.now (numbered hit.age hit.number) ≡ Some hit.tree.now) }
-        ensures inputs { IfSome result (λ hit. HaveNumbers self.now hit.age hit.inputs.now (map (λ lent. lent.now) inputs.now)) }
-        ensures none { IfNone result ((tree : TreeMap) → ¬ Holds self.now op.now (map (λ lent. lent.now) inputs.now) tree) }
+        ensures inputs { IfSome result (λ hit. HaveNumbers self.now hit.age hit.inputs.now (inputs_of sought.now)) }
+        ensures none { IfNone result ((tree : TreeMap) → ¬ Holds self.now sought.now.op.now (inputs_of sought.now) tree) }
     {
-        let key = key_of(op);
-        let sought = Sought { op, inputs, known };
-        match self.hit(key, &sought, false) {
+        let key = key_of(sought.op);
+        match self.hit(key, sought, false) {
             Some(hit) => Some(hit),
-            None => self.hit(key, &sought, true),
+            None => self.hit(key, sought, true),
         }
     }
 
     /// What it has for an operation, whose key this is, as `find_hit` finds it.
     fn hit(&self, key: u64, sought: &Sought, walks: bool) -> Option<Hit<'_>>
         requires key { key ≡ key_of sought.now.op.now }
-        requires known { AreKnown self.now sought.now.known.now (map (λ lent. lent.now) sought.now.inputs.now) }
-        ensures found { IfSome result (λ hit. Holds self.now sought.now.op.now (map (λ lent. lent.now) sought.now.inputs.now) hit.tree.now) }
+        requires known { AreKnown self.now sought.now.known.now (inputs_of sought.now) }
+        ensures found { IfSome result (λ hit. Holds self.now sought.now.op.now (inputs_of sought.now) hit.tree.now) }
         ensures number { IfSome result (λ hit. tree_numbered self.now (numbered hit.age hit.number) ≡ Some hit.tree.now) }
-        ensures inputs { IfSome result (λ hit. HaveNumbers self.now hit.age hit.inputs.now (map (λ lent. lent.now) sought.now.inputs.now)) }
-        ensures none { IsTrue walks → IfNone result ((tree : TreeMap) → ¬ Holds self.now sought.now.op.now (map (λ lent. lent.now) sought.now.inputs.now) tree) }
+        ensures inputs { IfSome result (λ hit. HaveNumbers self.now hit.age hit.inputs.now (inputs_of sought.now)) }
+        ensures none { IsTrue walks → IfNone result ((tree : TreeMap) → ¬ Holds self.now sought.now.op.now (inputs_of sought.now) tree) }
     {
         let recent = self.recent.find(key, sought, Age::Recent, walks);
         match recent {

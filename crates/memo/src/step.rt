@@ -1,10 +1,11 @@
-ghost use Rattle.std.specs.Prelude.{◌≡◌, ◌↔◌, ◌<◌, ℕ, Some, length, map, get_or, slice_get, IsTrue, IfOk, IfSome, IfNone};
+ghost use Rattle.std.specs.Prelude.{◌≡◌, ◌↔◌, ◌<◌, ℕ, Some, length, get_or, slice_get, IsTrue, IfOk, IfSome, IfNone};
 ghost use Rattle.memo.specs.declared.step.Step.{Step as StepValue};
 ghost use Rattle.memo.specs.Memo.{Has};
 ghost use Rattle.memo.specs.PrivateGeneration.{tree_at, trees_at, entries_at, AreAt, AreBelow, IsPlaced, ArePlaced, IsFor, Stands, Tells, step_of};
+ghost use Rattle.memo.specs.PrivateSought.{inputs_of};
 
 use crate::Hit;
-use crate::number::{Age, TreeNumber, known_at};
+use crate::number::{Age, known_at};
 use crate::sought::Sought;
 use llb::Op;
 use plain::{Exact, Items, Memory};
@@ -58,13 +59,13 @@ pub(crate) fn find_hit<'a>(
     walks: bool,
 ) -> Option<Hit<'a>>
     requires placed { ArePlaced (length kept.now) steps.now }
-    requires known { Tells age kept.now sought.now.known.now (map (λ lent. lent.now) sought.now.inputs.now) }
-    ensures found { IfSome result (λ hit. Has (entries_at kept.now steps.now) sought.now.op.now (map (λ lent. lent.now) sought.now.inputs.now) hit.tree.now) }
+    requires known { Tells age kept.now sought.now.known.now (inputs_of sought.now) }
+    ensures found { IfSome result (λ hit. Has (entries_at kept.now steps.now) sought.now.op.now (inputs_of sought.now) hit.tree.now) }
     ensures age { IfSome result (λ hit. hit.age ≡ age) }
     ensures number { IfSome result (λ hit. slice_get kept.now hit.number ≡ Some hit.tree.now) }
-    ensures inputs { IfSome result (λ hit. AreAt kept.now hit.inputs.now (map (λ lent. lent.now) sought.now.inputs.now)) }
+    ensures inputs { IfSome result (λ hit. AreAt kept.now hit.inputs.now (inputs_of sought.now)) }
     ensures none { IsTrue walks → IfNone result ((k : ℕ) (step : StepValue) → k < length numbers.now → slice_get steps.now (get_or numbers.now k 0) ≡ Some step
-        → ¬ IsFor kept.now sought.now.op.now (map (λ lent. lent.now) sought.now.inputs.now) step) }
+        → ¬ IsFor kept.now sought.now.op.now (inputs_of sought.now) step) }
 {
     match find_step(kept, steps, numbers, sought, age, walks) {
         None => None,
@@ -98,11 +99,11 @@ fn find_step<'a>(
     walks: bool,
 ) -> Option<&'a Step>
     requires placed { ArePlaced (length kept.now) steps.now }
-    requires known { Tells age kept.now sought.now.known.now (map (λ lent. lent.now) sought.now.inputs.now) }
+    requires known { Tells age kept.now sought.now.known.now (inputs_of sought.now) }
     ensures stands { IfSome result (λ step. Stands steps.now step.now) }
-    ensures found { IfSome result (λ step. IsFor kept.now sought.now.op.now (map (λ lent. lent.now) sought.now.inputs.now) step.now) }
+    ensures found { IfSome result (λ step. IsFor kept.now sought.now.op.now (inputs_of sought.now) step.now) }
     ensures none { IsTrue walks → IfNone result ((k : ℕ) (step : StepValue) → k < length numbers.now → slice_get steps.now (get_or numbers.now k 0) ≡ Some step
-        → ¬ IsFor kept.now sought.now.op.now (map (λ lent. lent.now) sought.now.inputs.now) step) }
+        → ¬ IsFor kept.now sought.now.op.now (inputs_of sought.now) step) }
 {
     for number in numbers {
         if let Some(step) = steps.get(*number) {
@@ -117,38 +118,31 @@ fn find_step<'a>(
 /// Whether a step is kept for an operation on these trees.
 fn is_for(kept: &[Tree], step: &Step, sought: &Sought, age: Age, walks: bool) -> bool
     requires placed { IsPlaced (length kept.now) step.now }
-    requires known { Tells age kept.now sought.now.known.now (map (λ lent. lent.now) sought.now.inputs.now) }
-    ensures is { IsTrue result → IsFor kept.now sought.now.op.now (map (λ lent. lent.now) sought.now.inputs.now) step.now }
-    ensures is_not { IsTrue walks → IsFor kept.now sought.now.op.now (map (λ lent. lent.now) sought.now.inputs.now) step.now → IsTrue result }
+    requires known { Tells age kept.now sought.now.known.now (inputs_of sought.now) }
+    ensures is { IsTrue result → IsFor kept.now sought.now.op.now (inputs_of sought.now) step.now }
+    ensures is_not { IsTrue walks → IsFor kept.now sought.now.op.now (inputs_of sought.now) step.now → IsTrue result }
 {
     let inputs = step.inputs.as_slice();
     // Numbers are compared sooner than operations, and under one key the operations are mostly equal.
-    are_at(kept, inputs, sought.inputs, sought.known, age, walks) && step.op.same(sought.op)
+    are_at(kept, inputs, sought, age, walks) && step.op.same(sought.op)
 }
 
-/// Whether the trees of these numbers are those that are lent one by one.
-fn are_at(
-    kept: &[Tree],
-    numbers: &[usize],
-    trees: &[&Tree],
-    known: &[Option<TreeNumber>],
-    age: Age,
-    walks: bool,
-) -> bool
+/// Whether the trees of these numbers are those that are asked for.
+fn are_at(kept: &[Tree], numbers: &[usize], sought: &Sought, age: Age, walks: bool) -> bool
     requires below { AreBelow (length kept.now) numbers.now }
-    requires known { Tells age kept.now known.now (map (λ lent. lent.now) trees.now) }
-    ensures are { IsTrue result → trees_at kept.now numbers.now ≡ map (λ lent. lent.now) trees.now }
-    ensures are_not { IsTrue walks → trees_at kept.now numbers.now ≡ map (λ lent. lent.now) trees.now → IsTrue result }
+    requires known { Tells age kept.now sought.now.known.now (inputs_of sought.now) }
+    ensures are { IsTrue result → trees_at kept.now numbers.now ≡ inputs_of sought.now }
+    ensures are_not { IsTrue walks → trees_at kept.now numbers.now ≡ inputs_of sought.now → IsTrue result }
 {
-    if numbers.len() != trees.len() {
+    if numbers.len() != sought.len() {
         return false;
     }
     for (place, number) in numbers.iter().enumerate() {
         if !is_at(
             kept,
             *number,
-            trees[place],
-            known_at(known, place, age),
+            sought.at(place),
+            known_at(sought.known, place, age),
             walks,
         ) {
             return false;

@@ -90,10 +90,10 @@ fn tell_counts(told: &mut String, memo: &Memo<Fixture>) -> Result<(), Memory> {
 /// Whether a memo has an operation on the empty tree.
 fn has(alloc: Global, memo: &Memo<Fixture>, op: &str) -> Result<bool, Memory> {
     let op = op_of(alloc, op)?;
-    let empty = Tree::empty(alloc);
-    let found = memo.find(&op, &[&empty]).is_some();
+    let inputs = [Tree::empty(alloc)];
+    let found = memo.find(&op, &inputs).is_some();
     drop(op);
-    drop(empty);
+    drop(inputs);
     Ok(found)
 }
 

@@ -1,16 +1,17 @@
-use Rattle.std.proofs.Common.{◌≡◌, ◌∙◌, List, map, IfNone, sym, ap, subst, rules}
+use Rattle.std.proofs.Common.{◌≡◌, ◌∙◌, List, IfNone, sym, ap, subst, rules}
 use Rattle.trees.specs.TreeMap.{TreeMap}
 use Rattle.memo.specs.Key.{key_of}
 use Rattle.memo.specs.Memo.{Lacks}
 use Rattle.memo.specs.PrivateGeneration.{IsIndexed, entries_at}
 use Rattle.memo.specs.PrivateIndex.{under}
+use Rattle.memo.specs.PrivateSought.{inputs_of}
 use Rattle.memo.proofs.GenerationLemmas.{lacks-none}
 use Rattle.memo.proofs.generation.Generation.find.Goals as goal
 
 pub returns-clause-none : goal.returns-clause-none
 returns-clause-none c = λ walks.
     let op = c.args.sought.now.op.now in
-    let inputs : List TreeMap = map (λ lent. lent.now) c.args.sought.now.inputs.now in
+    let inputs : List TreeMap = inputs_of c.args.sought.now in
     let index = c.self.inside.index in
     let trees : c.as_slice.result.now ≡ c.self.inside.trees.items = search rules in
     let steps : c.as_slice-2.result.now ≡ c.self.inside.steps.items = search rules in
