@@ -10,7 +10,7 @@ use Rattle.expand.specs.declared.reason.Rejection.{Rejection}
 use Rattle.trees.specs.TreeMap.{TreeMap}
 use Rattle.llb.specs.declared.op.Source.TheVariants.{Scratch, Context, Image}
 use Rattle.plans.specs.Images.{ImagesValue}
-use Rattle.plans.specs.Plan.{PlanValue, NeedsAll, problem_of}
+use Rattle.plans.specs.Plan.{PlanValue, HasLinesInOrder, NeedsAll, problem_of}
 use Rattle.plans.specs.Value.{Out}
 use Rattle.rows.specs.declared.row.Origin.{Origin}
 use Rattle.rows.specs.declared.row.Origin.TheVariants.{Source as SourceOf, Stage as StageOf}
@@ -59,14 +59,15 @@ target_refusal known file target =
 
 -- A plan means what the stages that a target needs are evaluated to: under every executor its target has the stage's tree, and none where the stage
 -- has none; its lines and causes are those of the instructions that fail; its configuration is the one at the stage's end. It stands for the
--- instructions, and its target needs all of it. Whatever solves it tells what the stages give: the tree with the configuration, or the line and the
--- cause of the first instruction of the file that fails.
+-- instructions, its target needs all of it, and its lines are in order. Whatever solves it tells what the stages give: the tree with the
+-- configuration, or the line and the cause of the first instruction of the file that fails.
 pub record IsPlanOf (made : Evaluated) (plan : PlanValue Config) : Type 0 where
   pub means : Means plan made.rows made.target
   pub stands : StandsFor plan made.rows made.target
   pub config : plan.config ≡ made.config
   pub sources : plan.sources ≡ made.sources
   pub needed : (out : Out) → NeedsAll (problem_of out plan)
+  pub order : (out : Out) → HasLinesInOrder (problem_of out plan)
   pub tells : (out : Out) (solution : Solution) → IsSolution (problem_of out plan) solution → Tells out (Ok made) (status_of solution) (text_of plan.config solution)
 
 -- what lowering the target of a table answers: the plan of what its needed stages are evaluated to, or the refusal of the first line of these stages
