@@ -14,7 +14,7 @@ import (
 )
 
 // where dfsolve is in the image
-var program = "/dfsolve"
+const program = "/dfsolve"
 
 // What dfsolve ends with. It says of each command which of the last two mean what (Command line, Statuses).
 const (
@@ -40,11 +40,10 @@ type image struct {
 	Tree   []entry         `json:"tree"`
 }
 
-// fault is a fault or a warning: a line of `dfsolve check --json`.
+// fault is a line of `dfsolve check --json`.
 type fault struct {
-	Code, File, Level, Message, Remedy, Place string
-	Theirs                                    string // BuildKit's own words
-	Line, End                                 int32  // 0: it is about no line
+	Code, File, Message, Remedy, Text, Word, Place string
+	Line, Column                                   int
 }
 
 // called is what dfsolve prints for a bundle, and its status. A status that the command hasn't got is an error.
@@ -67,73 +66,56 @@ func called(ctx context.Context, bundle []byte, words ...string) ([]byte, int, e
 	return nil, status, errors.Errorf("dfsolve %s: %s (%s)", words[0], strings.TrimSpace(said.String()), err)
 }
 
-// linesOf reads JSON that has a value on each line.
-func linesOf[T any](text []byte) (found []T, err error) {
-	lines := json.NewDecoder(bytes.NewReader(text))
-	for lines.More() {
-		var row T
-		if err := lines.Decode(&row); err != nil {
-			return nil, errors.Wrap(err, "what dfsolve prints")
-		}
-		found = append(found, row)
-	}
-	return found, nil
-}
-
 // written is what dfsolve prints for a bundle that it doesn't refuse. If it does, the faults say why.
 func (b *build) written(ctx context.Context, bundle []byte, words ...string) ([]byte, error) {
 	out, status, err := called(ctx, bundle, words...)
 	if err != nil || status == answered {
 		return out, err
 	}
-	if _, err := b.check(ctx, bundle); err != nil {
-		return nil, err
-	}
-	return nil, errors.Errorf("dfsolve %s refuses what dfsolve check finds no fault in: %s", words[0], out)
-}
-
-// check is what `dfsolve check` warns of in a bundle. If it finds faults they are an error. Of an image that isn't there yet nothing is said.
-func (b *build) check(ctx context.Context, bundle []byte) (warnings []fault, err error) {
-	out, _, err := called(ctx, bundle, "check", "--json", "--any-image")
+	faults, err := b.faults(ctx, bundle)
 	if err != nil {
 		return nil, err
 	}
-	rows, err := linesOf[fault](out)
+	if len(faults) == 0 {
+		return nil, errors.Errorf("dfsolve %s refuses what dfsolve check finds no fault in: %s", words[0], out)
+	}
+	return nil, b.refused(faults)
+}
+
+// faults is what `dfsolve check` finds in a bundle.
+func (b *build) faults(ctx context.Context, bundle []byte) ([]fault, error) {
+	out, _, err := called(ctx, bundle, "check", "--json")
 	if err != nil {
 		return nil, err
 	}
 	var faults []fault
-	for _, row := range rows {
-		if row.Level == "warning" {
-			warnings = append(warnings, row)
-		} else {
-			faults = append(faults, row)
+	lines := json.NewDecoder(bytes.NewReader(out))
+	for lines.More() {
+		var f fault
+		if err := lines.Decode(&f); err != nil {
+			return nil, errors.Wrap(err, "what dfsolve check says")
 		}
+		faults = append(faults, f)
 	}
-	return warnings, b.refused(faults)
+	return faults, nil
 }
 
 // refused is an error of these faults. A client shows their lines in the order in which they are put around it.
 func (b *build) refused(faults []fault) error {
-	if len(faults) == 0 {
-		return nil
-	}
 	said := make([]string, 0, len(faults))
 	for _, f := range faults {
 		said = append(said, b.sentence(f))
 	}
 	err := errors.New(strings.Join(said, "\n"))
 	for _, f := range faults {
-		if source := b.sourceOf(f); source != nil && f.Line > 0 {
-			err = source.around(err, f.lines())
-		}
+		err = b.at(err, f)
 	}
 	return err
 }
 
 // sentence is one fault for a person. The place comes first, since some clients show no lines.
 func (b *build) sentence(f fault) string {
-	source, theirs := b.sourceOf(f), ""
+	source := b.sourceOf(f)
 	if source == nil {
 		// what helps whoever writes bundles helps nobody here
 		return fmt.Sprintf("%s: dfsolve doesn't take what this front end gives it: %s", f.Code, f.Place)
@@ -142,16 +124,13 @@ func (b *build) sentence(f fault) string {
 	if f.Line > 0 {
 		place = fmt.Sprintf("%s:%d", place, f.Line)
 	}
-	if f.Theirs != "" {
-		theirs = "; " + f.Theirs
-	}
-	return fmt.Sprintf("%s: %s: %s%s (%s)", place, f.Code, f.Message, theirs, f.Remedy)
+	return fmt.Sprintf("%s: %s: %s%s (%s)", place, f.Code, f.Message, theirs(f), f.Remedy)
 }
 
 // sourceOf is the file that a fault is in, or nil if it is in what this program wrote.
 func (b *build) sourceOf(f fault) *source {
 	switch f.File {
-	case ignoreFile:
+	case ".dockerignore":
 		return b.ignore
 	case "bundle":
 		return nil
@@ -159,12 +138,35 @@ func (b *build) sourceOf(f fault) *source {
 	return b.file
 }
 
-// lines are those of the instruction that a fault is about.
-func (f fault) lines() *pb.Range {
-	return &pb.Range{Start: pb.Position{Line: f.Line}, End: pb.Position{Line: max(f.Line, f.End)}}
+// placed is an error about the instruction of a fault. The place stands in its text too, since some clients show no lines.
+func (b *build) placed(err error, f fault) error {
+	return b.at(errors.Wrapf(err, "%s:%d", b.file.name, f.Line), f)
+}
+
+// at shows with an error the lines of the instruction that a fault is about.
+func (b *build) at(err error, f fault) error {
+	source := b.sourceOf(f)
+	if source == nil || f.Line == 0 {
+		return err
+	}
+	return source.around(err, f.ranges())
+}
+
+func (f fault) ranges() []*pb.Range {
+	lines := strings.Count(f.Text, "\n") + 1
+	ranges := make([]*pb.Range, 0, lines)
+	for n := 0; n < lines; n++ {
+		at := pb.Position{Line: int32(f.Line + n)}
+		ranges = append(ranges, &pb.Range{Start: at, End: at})
+	}
+	if lines == 1 && f.Column > 0 {
+		ranges[0].Start.Character = int32(f.Column - 1)
+		ranges[0].End.Character = ranges[0].Start.Character + int32(len(f.Word))
+	}
+	return ranges
 }
 
 // around shows with an error these lines of a file.
-func (s *source) around(err error, lines ...*pb.Range) error {
-	return errdefs.WithSource(err, errdefs.Source{Info: s.info(), Ranges: lines})
+func (s *source) around(err error, ranges []*pb.Range) error {
+	return errdefs.WithSource(err, errdefs.Source{Info: s.info(), Ranges: ranges})
 }

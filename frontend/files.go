@@ -33,13 +33,13 @@ func (s *source) info() *pb.SourceInfo {
 
 // readDockerfile reads the Dockerfile, and beside it the ignore file of its own, if there is one.
 func (b *build) readDockerfile(ctx context.Context) error {
-	name := b.option("filename", defaultFile)
+	name := b.options.filename
 	wanted := []string{name, name + ignoreFile}
 	lower := path.Join(path.Dir(name), strings.ToLower(defaultFile))
 	if path.Base(name) == defaultFile {
 		wanted = append(wanted, lower)
 	}
-	found, err := b.read(ctx, b.option("dockerfilekey", "dockerfile"), "load build definition from "+name, wanted...)
+	found, err := b.read(ctx, b.options.dockerfile, "load build definition from "+name, wanted...)
 	if err != nil {
 		return err
 	}
@@ -58,7 +58,7 @@ func (b *build) readIgnoreFile(ctx context.Context) error {
 	if b.ignore != nil {
 		return nil
 	}
-	found, err := b.read(ctx, b.context, "load "+ignoreFile, ignoreFile)
+	found, err := b.read(ctx, "context", "load "+ignoreFile, ignoreFile)
 	b.ignore = found[ignoreFile]
 	return err
 }
@@ -113,10 +113,10 @@ func (v *variant) bundle(names []entry) ([]byte, error) {
 		"args":       v.arguments(),
 		"context":    context,
 		"dockerfile": map[string]string{"hex": hex.EncodeToString(v.file.data)},
-		"images":     v.images,
+		"images":     v.images.found,
 	}
-	if v.asked.Target != "" {
-		made["target"] = v.asked.Target
+	if v.options.target != "" {
+		made["target"] = v.options.target
 	}
 	text, err := json.Marshal(made)
 	return text, errors.Wrap(err, "the bundle")

@@ -4,111 +4,160 @@ import (
 	"bytes"
 	"context"
 	"encoding/json"
-	"fmt"
-	"slices"
+	"strings"
+	"sync"
 
 	"github.com/containerd/containerd/platforms"
 	"github.com/distribution/reference"
 	"github.com/moby/buildkit/client/llb/sourceresolver"
-	"github.com/moby/buildkit/solver/pb"
 	"github.com/pkg/errors"
 	"golang.org/x/sync/errgroup"
 )
 
-// naming is an image that stages name: a line of `dfsolve images`.
-type naming struct {
-	Name   string
-	Lines  []int32
-	Needed bool
+// images are those that a Dockerfile names, for one platform.
+type images struct {
+	found map[string]image
+	// lines are the places that name one, for errors
+	lines map[string]fault
+	// stubs are those that weren't asked for, as no stage that is needed names them. No definition names one either.
+	stubs map[string]bool
 }
 
-// findImages asks for the images that are needed, all at once.
-func (v *variant) findImages(ctx context.Context) error {
+// stub stands in a bundle for an image that isn't needed: nothing is fetched for it, and nothing fails for want of it.
+func (v *variant) stub() image {
+	config := map[string]interface{}{"architecture": v.platform.Architecture, "os": v.platform.OS,
+		"rootfs": map[string]interface{}{"type": "layers", "diff_ids": []string{}}}
+	text, err := json.Marshal(config)
+	if err != nil {
+		panic(err) // texts and lists of texts are always JSON
+	}
+	return image{Config: text, Tree: []entry{}}
+}
+
+// findImages finds which images are named, and asks for those that are needed.
+func (v *variant) findImages(ctx context.Context) (*images, error) {
+	v.images = &images{found: map[string]image{}, lines: map[string]fault{}, stubs: map[string]bool{}}
+	if err := v.nameImages(ctx); err != nil {
+		return nil, err
+	}
+	if err := v.resolveNeeded(ctx); err != nil {
+		return nil, err
+	}
 	bundle, err := v.bundle(nil)
 	if err != nil {
-		return err
+		return nil, err
 	}
-	out, err := v.written(ctx, bundle, "images", "--platform", platforms.Format(v.platform))
-	if err != nil {
-		return err
+	faults, err := v.faults(ctx, bundle)
+	if err == nil && len(faults) > 0 {
+		err = v.refused(faults)
 	}
-	rows, err := linesOf[naming](out)
-	if err != nil {
-		return err
-	}
-	found := make([]image, len(rows))
-	group, within := errgroup.WithContext(ctx)
-	for n, row := range rows {
-		group.Go(func() (err error) {
-			if found[n], err = v.resolve(within, row); err != nil {
-				err = v.missing(ctx, bundle, row, err)
-			}
+	return v.images, err
+}
+
+// resolveNeeded asks for the images that are needed. With the configuration of one, more may be known to be.
+func (v *variant) resolveNeeded(ctx context.Context) error {
+	for len(v.images.stubs) > 0 {
+		needed, err := v.needed(ctx)
+		if err != nil || len(needed) == 0 {
 			return err
+		}
+		if err := v.resolveAll(ctx, needed); err != nil {
+			return err
+		}
+	}
+	return nil
+}
+
+// needed are the images without a configuration that the graph of a build has. If there is no graph without their configurations, it is all
+// of them.
+func (v *variant) needed(ctx context.Context) ([]string, error) {
+	bundle, err := v.bundle(nil)
+	if err != nil {
+		return nil, err
+	}
+	out, status, err := called(ctx, bundle, "graph")
+	if err != nil {
+		return nil, err
+	}
+	var graph struct{ Ops []struct{ Source string } }
+	if status == answered {
+		if err := json.Unmarshal(out, &graph); err != nil {
+			return nil, errors.Wrap(err, "what dfsolve graph prints")
+		}
+	}
+	var names []string
+	for _, op := range graph.Ops {
+		if name, is := strings.CutPrefix(op.Source, "image:"); is && v.images.stubs[name] {
+			names = append(names, name)
+		}
+	}
+	if status != answered {
+		for name := range v.images.stubs {
+			names = append(names, name)
+		}
+	}
+	return names, nil
+}
+
+// resolveAll asks for the configurations of images, all at once.
+func (v *variant) resolveAll(ctx context.Context, names []string) error {
+	var lock sync.Mutex
+	group, ctx := errgroup.WithContext(ctx)
+	for _, name := range names {
+		group.Go(func() error {
+			found, err := v.resolve(ctx, name)
+			if err != nil {
+				return v.placed(err, v.images.lines[name])
+			}
+			lock.Lock()
+			defer lock.Unlock()
+			v.images.found[name] = found
+			delete(v.images.stubs, name)
+			return nil
 		})
 	}
-	err = group.Wait()
-	for n, row := range rows {
-		v.images[row.Name] = found[n]
-		if row.Needed {
-			v.warnings = append(v.warnings, unmet(row, found[n])...)
-		}
-	}
-	return err
+	return group.Wait()
 }
 
-// missing is the error about an image that can't be had, with what dfsolve warns of where it is named: it may be no image that is meant.
-func (v *variant) missing(ctx context.Context, bundle []byte, row naming, err error) error {
-	err = errors.Wrapf(err, "%s:%d: the image %s", v.file.name, row.Lines[0], row.Name)
-	warnings, _ := v.check(ctx, bundle)
-	for _, f := range warnings {
-		if slices.Contains(row.Lines, f.Line) {
-			err = errors.Wrap(err, v.sentence(f))
-		}
-	}
-	lines := []*pb.Range{}
-	for _, line := range row.Lines {
-		lines = append(lines, fault{Line: line}.lines())
-	}
-	return v.file.around(err, lines...)
-}
-
-// resolve asks for one image. Its digest goes into the bundle, so that its tag can't move before the build is made. In the place of one that
-// isn't needed stands an empty one: nothing is fetched for it, and nothing fails for want of it.
-func (v *variant) resolve(ctx context.Context, row naming) (image, error) {
-	if !row.Needed {
-		config := fmt.Sprintf(`{"architecture":%q,"os":%q,"rootfs":{"type":"layers","diff_ids":[]}}`, v.platform.Architecture, v.platform.OS)
-		return image{Config: json.RawMessage(config), Tree: []entry{}}, nil
-	}
-	whole, err := reference.ParseNormalizedNamed(row.Name)
+// resolve asks for one image. Its digest goes into the bundle, so that its tag can't move before the build is made.
+func (v *variant) resolve(ctx context.Context, name string) (image, error) {
+	whole, err := reference.ParseNormalizedNamed(name)
 	if err != nil {
-		return image{}, err
+		return image{}, errors.Wrapf(err, "%q is no name of an image", name)
 	}
 	_, digest, config, err := v.c.ResolveImageConfig(ctx, reference.TagNameOnly(whole).String(), sourceresolver.Opt{
 		Platform: &v.platform,
-		LogName:  "[internal] load metadata for " + row.Name + " for " + platforms.Format(v.platform),
-		ImageOpt: &sourceresolver.ResolveImageOpt{ResolveMode: v.asked.ImageResolveMode.String()},
+		LogName:  "[internal] load metadata for " + name + " for " + platforms.Format(v.platform),
+		ImageOpt: &sourceresolver.ResolveImageOpt{ResolveMode: v.options.resolve},
 	})
 	if err != nil {
-		return image{}, err
+		return image{}, errors.Wrapf(err, "the image %s", name)
 	}
 	config, err = listed(config)
-	return image{Config: config, Digest: digest.String(), Tree: []entry{}}, errors.Wrap(err, "its configuration")
+	if err != nil {
+		return image{}, errors.Wrapf(err, "the configuration of the image %s", name)
+	}
+	v.warnOfBase(ctx, name, config)
+	return image{Config: config, Digest: digest.String(), Tree: []entry{}}, nil
 }
 
 // listed is a configuration whose list of layers is one: of an image without layers BuildKit itself writes null.
 func listed(config []byte) ([]byte, error) {
-	made, layers := map[string]json.RawMessage{}, map[string]json.RawMessage{}
+	made := map[string]json.RawMessage{}
 	if err := json.Unmarshal(config, &made); err != nil {
 		return nil, errors.Wrap(err, "it is no JSON object")
 	}
-	if json.Unmarshal(made["rootfs"], &layers) != nil || !bytes.Equal(layers["diff_ids"], []byte("null")) {
-		return config, nil // (dfsolve says what else is wrong with it)
+	layers := map[string]json.RawMessage{}
+	if err := json.Unmarshal(made["rootfs"], &layers); err != nil {
+		return config, nil // dfsolve says what is wrong with it
+	}
+	if !bytes.Equal(layers["diff_ids"], []byte("null")) {
+		return config, nil
 	}
 	layers["diff_ids"] = json.RawMessage("[]")
-	rootfs, err := json.Marshal(layers)
-	if err != nil {
+	var err error
+	if made["rootfs"], err = json.Marshal(layers); err != nil {
 		return nil, err
 	}
-	made["rootfs"] = rootfs
 	return json.Marshal(made)
 }

@@ -27,7 +27,7 @@ const (
 	// how many folders are read at once where there is no such command
 	width = 16
 	// how many paths dfsolve is asked about by one command line
-	batch = 1000
+	asked = 1000
 
 	isNeither = "the context has %q, which is neither a file nor a folder: take it away, or have the ignore file leave it out"
 )
@@ -38,21 +38,46 @@ type follows struct {
 	paths  []string // none: all of it
 }
 
-// followsOf is what a definition names of the context.
-func (b *build) followsOf(definition *pb.Definition) (found follows, err error) {
+// findFollows asks what a definition of a bundle without files names of the context.
+func (v *variant) findFollows(ctx context.Context) (*follows, error) {
+	bundle, err := v.bundle(nil)
+	if err != nil {
+		return nil, err
+	}
+	written, err := v.written(ctx, bundle, "llb", "--unique", v.unique, "--follow")
+	if err != nil {
+		return nil, err
+	}
+	var definition pb.Definition
+	if err := definition.Unmarshal(written); err != nil {
+		return nil, errors.Wrap(err, "BuildKit can't read what dfsolve wrote")
+	}
+	found := &follows{}
+	return found, each(&definition, func(op *pb.Op) error {
+		source := op.GetSource()
+		if source.GetIdentifier() != "local://context" {
+			return nil
+		}
+		found.isUsed = true
+		if text := source.Attrs[pb.AttrFollowPaths]; text != "" {
+			return errors.Wrap(json.Unmarshal([]byte(text), &found.paths), "what the definition names of the context")
+		}
+		return nil
+	})
+}
+
+// each calls a function for each operation of a definition, in their order.
+func each(definition *pb.Definition, do func(*pb.Op) error) error {
 	for _, bytes := range definition.Def {
 		var op pb.Op
 		if err := op.Unmarshal(bytes); err != nil {
-			return found, errors.Wrap(err, "an operation of the definition")
+			return errors.Wrap(err, "an operation of the definition")
 		}
-		if source := op.GetSource(); source.GetIdentifier() == "local://"+b.context {
-			found.isUsed = true
-			if text := source.Attrs[pb.AttrFollowPaths]; text != "" {
-				return found, errors.Wrap(json.Unmarshal([]byte(text), &found.paths), "what the definition names of the context")
-			}
+		if err := do(&op); err != nil {
+			return err
 		}
 	}
-	return found, nil
+	return nil
 }
 
 // names lists what the variants name of the context. It is one list for all of them, so that the folder is read once.
@@ -70,7 +95,7 @@ func (b *build) names(ctx context.Context, variants []*variant) ([]entry, error)
 	if !isWhole {
 		more = append(more, llb.FollowPaths(paths))
 	}
-	context := b.local(b.context, "list build context", more...)
+	context := b.local("context", "list build context", more...)
 	names, isTold, err := b.told(ctx, context)
 	if err == nil && !isTold {
 		names, err = b.walked(ctx, context)
@@ -218,8 +243,8 @@ func (b *build) withoutLinks(ctx context.Context, v *variant, names []entry) ([]
 	if err != nil {
 		return nil, err
 	}
-	for begin := 0; begin < len(links); begin += batch {
-		part := links[begin:min(begin+batch, len(links))]
+	for begin := 0; begin < len(links); begin += asked {
+		part := links[begin:min(begin+asked, len(links))]
 		out, err := b.written(ctx, bundle, append([]string{"why", "--"}, part...)...)
 		if err != nil {
 			return nil, err

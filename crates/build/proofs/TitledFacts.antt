@@ -1,5 +1,5 @@
 -- What a bundle asks for, with the titles of its steps.
-use Rattle.std.proofs.Common.{◌≡◌, ℕ, Bool, List, Option, Result, Ok, Err, IfOk, subst, sym}
+use Rattle.std.proofs.Common.{◌≡◌, ℕ, List, Option, Result, Ok, Err, IfOk, subst, sym}
 use Rattle.std.specs.FinMap.{get}
 use Rattle.plain.specs.declared.fault.Fault.{Fault}
 use Rattle.plain.specs.declared.fault.Fault.TheVariants.{Because, Memory}
@@ -19,18 +19,20 @@ use Rattle.imageconfig.specs.declared.config.Config.{Config}
 use Rattle.bundle.specs.declared.whole.Bundle.{Bundle}
 use Rattle.bundle.specs.LeftOut.{LeavesOut}
 use Rattle.bundle.specs.Reading.{ReadsBundle}
-use Rattle.stubs.specs.Stubbing.{HoldsBy, IsGivenBy}
 use Rattle.build.specs.declared.asking.Asked.{Asked}
 use Rattle.build.specs.declared.titled.Titled.{Titled}
-use Rattle.build.specs.Titled.{AreTitlesOf, HasTitlesBy, HasLeftOut, HasDigests}
-use Rattle.build.proofs.AskFacts.{given_holds}
+use Rattle.build.specs.Titled.{AreTitlesOf, HasTitlesOf, HasLeftOut, HasDigests}
+
+-- the titles of a bundle are those of its bytes
+pub bundle_titled : (bytes : List ℕ) (bundle : Bundle Config) (titles : List (Option (List ℕ))) → ReadsBundle config_in bytes (Ok bundle)
+    → AreTitlesOf bundle titles → HasTitlesOf bytes titles
+bundle_titled bytes bundle titles read are = (bundle, read, are)
 
 -- what a bundle has, its bytes have
 module _ (bytes : List ℕ) (bundle : Bundle Config) (left : List (List (List ℕ))) (leaves : LeavesOut config_in bytes (Ok (bundle, left))) where
-  pub titles_told : (any : Bool) (result : Result Titled (Fault Rejection)) → IfOk result (λ titled. HoldsBy any (λ given. AreTitlesOf given titled.titles) bundle)
-      → IfOk result (λ titled. HasTitlesBy any bytes titled.titles)
-  titles_told any (Ok titled) are = (bundle, leaves.reads, are)
-  titles_told any (Err fault) are = tt
+  pub titles_told : (result : Result Titled (Fault Rejection)) → IfOk result (λ titled. AreTitlesOf bundle titled.titles) → IfOk result (λ titled. HasTitlesOf bytes titled.titles)
+  titles_told (Ok titled) are = bundle_titled bytes bundle titled.titles leaves.reads are
+  titles_told (Err fault) are = tt
 
   pub left_told : (result : Result Titled (Fault Rejection)) → IfOk result (λ titled. titled.left_out ≡ left) → IfOk result (λ titled. HasLeftOut bytes titled.left_out)
   left_told (Ok titled) same = (bundle, subst (λ (l : List (List (List ℕ))). LeavesOut config_in bytes (Ok (bundle, l))) (sym same) leaves)
@@ -53,10 +55,3 @@ pub stages_titled : (bundle : Bundle Config) (lines : List Line) (is : List Inst
 stages_titled bundle lines is table (Ok titled) are spelled found titles =
     record { lines = lines; are = are; instructions = is; spelled = spelled; table = table; found = found; titled = titles }
 stages_titled bundle lines is table (Err fault) are spelled found titles = tt
-
--- what is asked for of the bundle that is given in place of one, and its titles
-module _ (any : Bool) (bundle given : Bundle Config) (is : IsGivenBy any bundle given) where
-  pub given_titled : (result : Result (Asked × List (Option (List ℕ))) (Fault Rejection)) → IfOk result (λ titled. AreTitlesOf given titled.1)
-      → IfOk result (λ titled. HoldsBy any (λ b. AreTitlesOf b titled.1) bundle)
-  given_titled (Ok titled) are = given_holds any (λ b. AreTitlesOf b titled.1) bundle given is are
-  given_titled (Err fault) are = are

@@ -1,5 +1,5 @@
 -- What an engine's progress calls the steps of a bundle's Dockerfile, what its ignore file leaves out of its context, and which digests pin names.
-use Rattle.std.specs.Prelude.{◌≡◌, ℕ, Bool, false, List, Option, Result, Ok, Err}
+use Rattle.std.specs.Prelude.{◌≡◌, ℕ, List, Option, Result, Ok, Err}
 use Rattle.std.specs.FinMap.{get}
 use Rattle.plain.specs.declared.fault.Fault.{Fault}
 use Rattle.expand.specs.declared.reason.Rejection.{Rejection}
@@ -17,7 +17,6 @@ use Rattle.imageconfig.specs.declared.config.Config.{Config}
 use Rattle.bundle.specs.declared.whole.Bundle.{Bundle}
 use Rattle.bundle.specs.LeftOut.{LeavesOut}
 use Rattle.bundle.specs.Reading.{ReadsBundle}
-use Rattle.stubs.specs.Stubbing.{HoldsBy}
 use Rattle.build.specs.declared.asking.Asked.{Asked}
 use Rattle.build.specs.declared.titled.Titled.{Titled}
 
@@ -36,14 +35,9 @@ pub record AreTitlesOf (bundle : Bundle Config) (titles : List (Option (List ℕ
   pub found : resolved (names_in bundle.images) (get bundle.args) bundle.target instructions ≡ Ok table
   pub titled : titles ≡ titles_of lines (stage_names instructions) table.stages
 
--- the same of the bundle that these bytes are, where stubs may stand for the images that it lacks, or may not
-abbrev pub HasTitlesBy : Bool → List ℕ → List (Option (List ℕ)) → Type 0
-HasTitlesBy any bytes titles =
-    (bundle : Bundle Config) × ReadsBundle config_in bytes (Ok bundle) × HoldsBy any (λ given. AreTitlesOf given titles) bundle
-
--- the same where the images are all there
+-- the same of the bundle that these bytes are
 abbrev pub HasTitlesOf : List ℕ → List (Option (List ℕ)) → Type 0
-HasTitlesOf bytes titles = HasTitlesBy false bytes titles
+HasTitlesOf bytes titles = (bundle : Bundle Config) × ReadsBundle config_in bytes (Ok bundle) × AreTitlesOf bundle titles
 
 -- the ignore file of the bundle that these bytes are leaves out these paths of its context
 abbrev pub HasLeftOut : List ℕ → List (List (List ℕ)) → Type 0

@@ -9,11 +9,10 @@ ghost use Rattle.stages.specs.Resolved.{resolved};
 ghost use Rattle.stages.specs.Table.{NamesKnown};
 ghost use Rattle.titles.specs.Titles.{titles_of as titles_in};
 ghost use Rattle.build.specs.Lowerable.{IsLowerable};
-ghost use Rattle.build.specs.PrivateAsking.{IsBundleAsked, IsFileAsked, IsTableAsked};
-ghost use Rattle.build.specs.Telling.{IsAskedBy};
+ghost use Rattle.build.specs.PrivateAsking.{IsFileAsked, IsTableAsked};
+ghost use Rattle.build.specs.Telling.{IsAsked};
 ghost use Rattle.build.specs.PrivateTitled.{asked_of};
-ghost use Rattle.stubs.specs.Stubbing.{HoldsBy};
-ghost use Rattle.build.specs.Titled.{asked_in, AreTitlesOf, HasTitlesBy, HasLeftOut, HasDigests};
+ghost use Rattle.build.specs.Titled.{asked_in, AreTitlesOf, HasTitlesOf, HasLeftOut, HasDigests};
 
 use crate::asking::{Asked, ask_table, rejection_fault, table_of};
 use bundle::{Bundle, read_with_left_out};
@@ -28,7 +27,6 @@ use stages::{TargetTable, stage_names};
 use std::alloc::Global;
 use std::hash::RandomState;
 use std::thread::Threads;
-use stubs::stub_for;
 use titles::titles_of;
 
 /// What a bundle asks for, with what an engine's progress calls its steps, what its ignore file leaves out, and which digests its images have.
@@ -46,22 +44,21 @@ pub struct Titled {
 
 /// What the bytes of a bundle ask for, what an engine's progress calls the steps of its Dockerfile, by the lines of their instructions, what
 /// its ignore file leaves out of its context, and which digests its images have.
-/// The stubs and the refusals are those of `ask`.
+/// The refusals are those of `ask`.
 pub fn ask_titled(
     alloc: Global,
     keys: RandomState,
     rt: &(impl Threads + Sync),
     bytes: &[u8],
-    any_image: bool,
 ) -> Result<Titled, RejectionFault>
-    ensures asked { IsAskedBy any_image bytes.now (asked_in result) }
+    ensures asked { IsAsked bytes.now (asked_in result) }
     ensures lowerable { IfOk result (λ titled. IsLowerable titled.asked.evaluated) }
-    ensures titles { IfOk result (λ titled. HasTitlesBy any_image bytes.now titled.titles) }
+    ensures titles { IfOk result (λ titled. HasTitlesOf bytes.now titled.titles) }
     ensures left_out { IfOk result (λ titled. HasLeftOut bytes.now titled.left_out) }
     ensures digests { IfOk result (λ titled. HasDigests bytes.now titled.digests) }
 {
     match read_with_left_out(alloc, keys, rt, bytes) {
-        Ok((bundle, left_out)) => titled_bundle(alloc, keys, bundle, left_out, any_image),
+        Ok((bundle, left_out)) => titled_bundle(alloc, keys, bundle, left_out),
         Err(fault) => Err(rejection_fault(fault)),
     }
 }
@@ -72,12 +69,11 @@ fn titled_bundle(
     keys: RandomState,
     bundle: Bundle<BoxedConfig>,
     left_out: Items<Path>,
-    any_image: bool,
 ) -> Result<Titled, RejectionFault>
     requires { bundle.caches.holds ≡ [] }
-    ensures asked { IsBundleAsked any_image bundle (asked_in result) }
+    ensures asked { IsFileAsked bundle (asked_in result) }
     ensures lowerable { IfOk result (λ titled. IsLowerable titled.asked.evaluated) }
-    ensures titles { IfOk result (λ titled. HoldsBy any_image (λ given. AreTitlesOf given titled.titles) bundle) }
+    ensures titles { IfOk result (λ titled. AreTitlesOf bundle titled.titles) }
     ensures left_out { IfOk result (λ titled. titled.left_out ≡ left_out) }
     ensures digests { IfOk result (λ titled. titled.digests ≡ bundle.digests) }
 {
@@ -89,7 +85,7 @@ fn titled_bundle(
             return Err(Fault::Memory);
         }
     };
-    match titled_given(alloc, keys, bundle, any_image) {
+    match titled_file(alloc, keys, bundle) {
         Ok((asked, titles)) => Ok(Titled {
             asked,
             titles,
@@ -104,25 +100,7 @@ fn titled_bundle(
     }
 }
 
-/// What a bundle asks for, or that bundle with its stubs, with the titles of its Dockerfile.
-fn titled_given(
-    alloc: Global,
-    keys: RandomState,
-    bundle: Bundle<BoxedConfig>,
-    any_image: bool,
-) -> Result<(Asked, Items<Option<Text>>), RejectionFault>
-    requires { bundle.caches.holds ≡ [] }
-    ensures asked { IsBundleAsked any_image bundle (asked_of result) }
-    ensures lowerable { IfOk result (λ titled. IsLowerable titled.0.evaluated) }
-    ensures titles { IfOk result (λ titled. HoldsBy any_image (λ given. AreTitlesOf given titled.1) bundle) }
-{
-    match stub_for(alloc, keys, bundle, any_image) {
-        Ok(given) => titled_file(alloc, keys, given),
-        Err(_) => Err(Fault::Memory),
-    }
-}
-
-/// What a bundle with all its images asks for, with the titles of its Dockerfile.
+/// What a bundle asks for, with the titles of its Dockerfile.
 fn titled_file(
     alloc: Global,
     keys: RandomState,

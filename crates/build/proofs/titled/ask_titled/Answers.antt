@@ -5,11 +5,11 @@ use Rattle.build.proofs.titled.ask_titled.Goals as goal
 
 pub returns-in-Ok-clause-asked : goal.returns-in-Ok-clause-asked
 returns-in-Ok-clause-asked g c =
-    bundle_asked c.args.any_image c.args.bytes.now c.in-Ok.bundle (asked_in c.titled_bundle.result) c.in-Ok.ensures.reads c.titled_bundle.ensures.asked
+    bundle_asked c.args.bytes.now c.in-Ok.bundle (asked_in c.titled_bundle.result) c.in-Ok.ensures.reads c.titled_bundle.ensures.asked
 
 pub returns-in-Ok-clause-titles : goal.returns-in-Ok-clause-titles
 returns-in-Ok-clause-titles g c =
-    titles_told c.args.bytes.now c.in-Ok.bundle c.in-Ok.left_out c.in-Ok.ensures c.args.any_image c.titled_bundle.result c.titled_bundle.ensures.titles
+    titles_told c.args.bytes.now c.in-Ok.bundle c.in-Ok.left_out c.in-Ok.ensures c.titled_bundle.result c.titled_bundle.ensures.titles
 
 pub returns-in-Ok-clause-left_out : goal.returns-in-Ok-clause-left_out
 returns-in-Ok-clause-left_out g c =

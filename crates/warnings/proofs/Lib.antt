@@ -1,2 +1,0 @@
-mod KnownFacts
-mod WarningFacts
