@@ -1,5 +1,6 @@
 // What can't be packed, in words: where it is, what it is, and the remedy.
-ghost use Rattle.std.specs.Prelude.{◌≡◌, ◌++◌, IfOk, OnOk};
+ghost use Rattle.std.specs.Prelude.{◌≡◌, ◌++◌, IfOk, IsTrue, None, OnOk};
+ghost use Rattle.std.specs.IoError.{raw_os_error};
 ghost use Rattle.packing.specs.Ends.{IsBefore};
 ghost use Rattle.packing.specs.PrivateWords.{Notes, shown};
 
@@ -107,6 +108,8 @@ pub(crate) const NO_CONFIG: &str =
 
 const UNREADABLE: &str = " cannot be read: make it readable, or leave it out";
 
+const NO_SYSTEM_MEMORY: &str = " cannot be used while the system has no memory for it: pack again";
+
 pub(crate) const UNWRITTEN: &str = " cannot be written: see whether there is room for it";
 
 /// What a place is called.
@@ -140,6 +143,17 @@ pub(crate) fn refuse(alloc: Global, notes: &mut Text, place: &str, what: &str) -
     }
 }
 
+/// Whether a call of the machine failed since the allocator refused a growth. Then the error is the library's own, without a number of the system:
+/// where it is the system that has no memory for a call, that is a failure of what was called.
+fn is_want(error: &io::Error) -> bool
+    ensures { IsTrue result → raw_os_error error.now ≡ None }
+{
+    match error.raw_os_error() {
+        Some(_) => false,
+        None => error.kind() == ErrorKind::OutOfMemory,
+    }
+}
+
 /// The same, where a call of the machine failed.
 pub(crate) fn refuse_error(
     alloc: Global,
@@ -149,8 +163,11 @@ pub(crate) fn refuse_error(
 ) -> PackFault
     ensures { IsBefore result }
 {
+    if is_want(error) {
+        return PackFault::Memory;
+    }
     match error.kind() {
-        ErrorKind::OutOfMemory => PackFault::Memory,
+        ErrorKind::OutOfMemory => refuse(alloc, notes, place, NO_SYSTEM_MEMORY),
         ErrorKind::NotFound => refuse(alloc, notes, place, MISSING),
         ErrorKind::NotADirectory => refuse(alloc, notes, place, BELOW_FILE),
         ErrorKind::InvalidFilename => refuse(alloc, notes, place, NO_UTF8),
@@ -207,7 +224,7 @@ pub(crate) fn refuse_output(
     name: &str,
     error: &io::Error,
 ) -> PackFault {
-    if error.kind() == ErrorKind::OutOfMemory {
+    if is_want(error) {
         return PackFault::Memory;
     }
     note_output(alloc, notes, name, unwritable(error.kind()));
@@ -227,6 +244,7 @@ fn unwritable(kind: ErrorKind) -> &'static str {
         ErrorKind::PermissionDenied => " may not be written: name another file",
         ErrorKind::IsADirectory => " is a folder: name a file",
         ErrorKind::NotADirectory => BELOW_FILE,
+        ErrorKind::OutOfMemory => NO_SYSTEM_MEMORY,
         _ => UNWRITTEN,
     }
 }
