@@ -1,4 +1,5 @@
 mod CheckFacts
+mod GivenFacts
 mod ImageFacts
 mod ListFacts
 mod MarkFacts

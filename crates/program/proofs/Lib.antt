@@ -1,6 +1,8 @@
 mod ConfigFacts
+mod DescendFacts
 mod DotFacts
 mod FirstFacts
+mod ImageFacts
 mod InputFacts
 mod LlbFacts
 mod TaskFacts

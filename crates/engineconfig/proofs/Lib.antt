@@ -1,0 +1,4 @@
+mod Characters
+mod FloatFacts
+mod LawFacts
+mod WalkFacts
