@@ -1,5 +1,4 @@
 mod CheckFacts
-mod GivenFacts
 mod ImageFacts
 mod ListFacts
 mod MarkFacts

@@ -2,7 +2,6 @@ pub mod Checked
 pub mod Checks
 pub mod Failing
 pub mod Images
-pub mod Lacked
 pub mod Layout
 pub mod Mark
 pub mod PrivateImages

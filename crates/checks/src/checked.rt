@@ -1,10 +1,9 @@
 ghost use Rattle.std.specs.Prelude.{◌≡◌, IfOk};
-ghost use Rattle.checks.specs.Checked.{IsCheckBy};
+ghost use Rattle.checks.specs.Checked.{IsCheckOf};
 
 use crate::Form;
 use crate::checking::{Findings, check_bundle};
 use crate::images::images_for;
-use crate::lacked::noted_by;
 use crate::showing::shown_check;
 use plain::{Memory, Text};
 use std::alloc::Global;
@@ -19,13 +18,10 @@ pub struct Checked {
     pub text: Text,
     /// Whether there is no fault.
     pub is_sound: bool,
-    /// What is noted of the images for which stubs stand: a sentence without control characters, and empty if there is none.
-    pub note: Text,
 }
 
 /// Checks the bytes of a bundle whose Dockerfile is the file of this name: all faults that `check_bundle` finds, as `shown_faults` shows them in this form
-/// with the text that they are in. Bytes that are no bundle are shown with where they are wrong. With `any_image` a stub stands for each image that the bundle
-/// lacks.
+/// with the text that they are in. Bytes that are no bundle are shown with where they are wrong.
 pub fn check(
     alloc: Global,
     keys: RandomState,
@@ -33,17 +29,15 @@ pub fn check(
     file: &str,
     bytes: &[u8],
     form: Form,
-    any_image: bool,
 ) -> Result<Checked, Memory>
-    ensures { IfOk result (IsCheckBy any_image file.now bytes.now form) }
+    ensures { IfOk result (λ checked. IsCheckOf file.now bytes.now form checked) }
 {
     let Findings {
         faults,
         text,
         target,
         flaw,
-        missing,
-    } = check_bundle(alloc, keys, rt, bytes, any_image)?;
+    } = check_bundle(alloc, keys, rt, bytes)?;
     let images = images_for(alloc, bytes, faults.as_slice())?;
     let text = shown_check(
         alloc,
@@ -51,15 +45,12 @@ pub fn check(
         flaw.as_ref(),
         target.as_ref(),
         images.as_slice(),
-        missing.as_slice(),
         faults.as_slice(),
         text.as_slice(),
         form,
     )?;
-    let note = noted_by(alloc, keys, any_image, missing.as_slice())?;
     Ok(Checked {
         text,
         is_sound: faults.is_empty(),
-        note,
     })
 }

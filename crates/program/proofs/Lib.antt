@@ -1,8 +1,6 @@
 mod ConfigFacts
-mod DescendFacts
 mod DotFacts
 mod FirstFacts
-mod ImageFacts
 mod InputFacts
 mod LlbFacts
 mod TaskFacts

@@ -2,11 +2,9 @@
 ghost use Rattle.std.specs.Prelude.{◌≡◌};
 ghost use Rattle.program.specs.Faults.{as_told};
 
-use crate::told::{Ending, no_note};
 use build::{BuildFault, Status};
 use counted::{Device, EdgeFault};
 use plain::{Fault, Memory};
-use std::alloc::Global;
 
 /// Why what is told of a bundle wasn't written whole.
 #[derive(Clone, Copy, Debug, PartialEq, Eq)]
@@ -62,15 +60,12 @@ impl From<Memory> for TellFault {
     }
 }
 
-/// How a build ended, as what is told of a bundle ends.
-pub(crate) fn as_told(alloc: Global, ended: Result<Status, BuildFault>) -> Result<Ending, TellFault>
+/// How a build or the drawing of a graph ended, as what is told of a bundle ends.
+pub(crate) fn as_told(ended: Result<Status, BuildFault>) -> Result<Status, TellFault>
     ensures { result ≡ as_told ended }
 {
     match ended {
-        Ok(status) => Ok(Ending {
-            status,
-            note: no_note(alloc),
-        }),
+        Ok(status) => Ok(status),
         Err(fault) => Err(TellFault::from(fault)),
     }
 }

@@ -9,7 +9,6 @@ ghost use Rattle.program.specs.Saying.{stream};
 use crate::ending::{finish_file, finish_pack};
 use crate::fault::TellFault;
 use crate::saying::say_because;
-use crate::told::Ending;
 use build::Status;
 use command::{Choice, Source};
 use counted::{CountedRead, CountedWrite};
@@ -209,7 +208,7 @@ fn finish_unopened<S: CountedWrite>(
     requires says { S.failures errors.old < u64.MAX }
     ensures { IsUnopened name.now (stream (S.contents errors.old) (S.failures errors.old)) (stream (S.contents errors.new) (S.failures errors.new)) result }
 {
-    let ended: Result<Ending, TellFault> = Err(open_fault(error));
+    let ended = Err(open_fault(error));
     finish_file(alloc, errors, ended, name, why_of(error.kind()))
 }
 

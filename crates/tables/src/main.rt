@@ -14,7 +14,6 @@ mod configurations;
 mod copies;
 mod definitions;
 mod devices;
-mod engines;
 mod errors;
 mod failing;
 mod files;
@@ -76,7 +75,6 @@ enum Table {
     Trees,
     Copies,
     Configurations,
-    Engines,
     Definitions,
     Llb,
     Programs,
@@ -141,7 +139,6 @@ fn table_of(name: &str) -> Table {
         "trees" => Table::Trees,
         "copies" => Table::Copies,
         "configurations" => Table::Configurations,
-        "engines" => Table::Engines,
         "definitions" => Table::Definitions,
         "llb" => Table::Llb,
         "programs" => Table::Programs,
@@ -183,7 +180,6 @@ fn answer<F: Files + AllocGlobal + Clone + Drop>(
         Table::Trees => steps::answer(alloc, case),
         Table::Copies => copies::answer(alloc, keys, rt, files, case),
         Table::Configurations => configurations::answer(alloc, keys, case),
-        Table::Engines => engines::answer(alloc, keys, rt, case),
         Table::Definitions => definitions::answer(alloc, case),
         Table::Llb => buildkit::answer(alloc, keys, case),
         Table::Programs => programs::answer(alloc, keys, rt, files, case),

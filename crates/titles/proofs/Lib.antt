@@ -1,3 +1,2 @@
-mod EndFacts
 mod TitleFacts
 mod TitledFacts

@@ -1,4 +1,2 @@
-pub mod Ends
-pub mod Stages
 pub mod Titles
 pub mod Titled

@@ -1,4 +1,0 @@
-mod Characters
-mod FloatFacts
-mod LawFacts
-mod WalkFacts

@@ -1,5 +1,0 @@
-mod CollectFacts
-mod LawFacts
-mod ListingFacts
-mod RowFacts
-mod TextFacts

@@ -1,3 +1,0 @@
-pub mod StubFacts
-mod NameFacts
-mod RowFacts
