@@ -102,5 +102,17 @@ def rtlib():
 
 
 def keep_sums(crate_type):
-    """Lets the sum of a crate be made once. It is that of all below it too, each of which would be made anew for each crate above."""
-    crate_type.stamp = functools.lru_cache(maxsize=None)(crate_type.stamp)
+    """Lets the sum of a crate be made once, and the list of those below it. A sum is that of all below too, each of which would be made anew for each way
+    that leads down to it."""
+    def once(of_crate):
+        known = {}
+
+        def found(crate):
+            if crate.folder not in known:
+                known[crate.folder] = of_crate(crate)
+            return known[crate.folder]
+
+        return found
+
+    crate_type.stamp, below_it = once(crate_type.stamp), once(crate_type.below)
+    crate_type.below = lambda crate: list(below_it(crate))
