@@ -16,6 +16,7 @@ use ascii::are_digits;
 use dockerfile::Dockerfile;
 use expand::{Word, expand};
 use instructions::{InstructionKind, Mount, MountKind};
+use named::NamedRows;
 use plain::{Exact, Fault, Items, Memory, Text};
 use scopes::{Args, Scope};
 use std::alloc::Global;
@@ -187,11 +188,35 @@ fn images_at(
     }
 }
 
+/// A name whose bytes are shared with those of the same name that was found before: thousands of lines may name one image by a variable whose
+/// value is long.
+fn shared_name(alloc: Global, known: &mut NamedRows<Text>, name: Text) -> Result<Text, Memory>
+    ensures { IfOk result (λ shared. shared ≡ name) }
+{
+    if let Some(same) = known.get(&name) {
+        if same.same(&name) {
+            return same.copy(alloc);
+        }
+    }
+    let name = name.shared(alloc)?;
+    let key = name.copy(alloc)?;
+    let value = name.copy(alloc)?;
+    known.set(key, value)?;
+    Ok(name)
+}
+
 /// Adds images that are named on a line.
-fn push_names(found: &mut Items<ImageName>, line: u32, images: Items<Text>) -> Result<(), Memory>
+fn push_names(
+    alloc: Global,
+    known: &mut NamedRows<Text>,
+    found: &mut Items<ImageName>,
+    line: u32,
+    images: Items<Text>,
+) -> Result<(), Memory>
     ensures { OnOk result (found.new ≡ found.old ++ on_line line images) }
 {
     for name in images.into_vec() {
+        let name = shared_name(alloc, known, name)?;
         found.push(ImageName { name, line })?;
     }
     Ok(())
@@ -272,11 +297,12 @@ pub fn image_names(
     let mut found = Items::new(alloc);
     let mut outer = Scope::new(alloc, keys);
     let mut names = Items::new(alloc);
+    let mut known = NamedRows::new(alloc, keys);
     let instructions = file.instructions();
     for instruction in instructions {
         let kind = instruction.kind();
         let images = images_at(alloc, &outer, names.as_slice(), kind)?;
-        push_names(&mut found, instruction.line(), images)?;
+        push_names(alloc, &mut known, &mut found, instruction.line(), images)?;
         let goes_on = take_in(alloc, keys, args, &mut outer, &mut names, kind)?;
         if !goes_on {
             return Ok(found);
