@@ -1,2 +1,3 @@
+mod EndFacts
 mod TitleFacts
 mod TitledFacts

@@ -1,2 +1,4 @@
+pub mod Ends
+pub mod Stages
 pub mod Titles
 pub mod Titled

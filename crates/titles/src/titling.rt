@@ -13,7 +13,12 @@ use std::alloc::Global;
 type Titles = Items<Option<Text>>;
 
 /// The titles so far, with that of a line.
-fn with_title(alloc: Global, titles: Titles, line: u32, title: Text) -> Result<Titles, Memory>
+pub(crate) fn with_title(
+    alloc: Global,
+    titles: Titles,
+    line: u32,
+    title: Text,
+) -> Result<Titles, Memory>
     ensures { IfOk result (λ more. more ≡ with_title titles line title) }
 {
     let mut titles = titles;

@@ -1,0 +1,5 @@
+mod CollectFacts
+mod LawFacts
+mod ListingFacts
+mod RowFacts
+mod TextFacts

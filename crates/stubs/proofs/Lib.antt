@@ -1,0 +1,3 @@
+pub mod StubFacts
+mod NameFacts
+mod RowFacts

@@ -1,0 +1,2 @@
+mod KnownFacts
+mod WarningFacts
