@@ -1,5 +1,6 @@
 ghost use Rattle.build.specs.Lowerable.{IsLowerable};
-ghost use Rattle.build.specs.PrivateShowing.{IsFileShown, IsShown};
+ghost use Rattle.build.specs.Graph.{IsGraphTold};
+ghost use Rattle.build.specs.PrivateShowing.{IsFileShown};
 
 use crate::asking::{Asked, ask};
 use crate::{BuildFault, Status};
@@ -13,16 +14,21 @@ use std::alloc::Global;
 use std::hash::RandomState;
 use std::thread::Threads;
 
-/// What is shown of a bundle's bytes: the graph of what they ask for, or their refusal.
-pub(crate) fn show_bundle(
+/// What is shown of a bundle's bytes: the graph of what they ask for, as a definition, or their refusal. With `any_image` a stub stands for each
+/// image that the Dockerfile names and the bundle lacks.
+///
+/// `Built` if it is a graph, `Refused` if it is a refusal, and never `Failed`, since nothing is run. `Clash` only where two different operations of the
+/// drawing have one address, and never `Device`.
+pub fn show_bundle(
     alloc: Global,
     keys: RandomState,
     rt: &(impl Threads + Sync),
     bytes: &[u8],
+    any_image: bool,
 ) -> Result<Told, BuildFault>
-    ensures { IsShown bytes.now result }
+    ensures { IsGraphTold any_image bytes.now result }
 {
-    match ask(alloc, keys, rt, bytes) {
+    match ask(alloc, keys, rt, bytes, any_image) {
         Ok(asked) => {
             let Asked {
                 evaluated,

@@ -4,6 +4,7 @@ pub mod BuildWalk
 pub mod Folders
 pub mod Kept
 pub mod LeafWalk
+pub mod Limits
 pub mod Matched
 pub mod PackWalk
 pub mod Rows

@@ -1,6 +1,9 @@
 pub mod CommandLine
-pub mod Flags
+pub mod Engine
 pub mod Llb
+pub mod Platform
 pub mod PrivateTasks
+pub mod Settings
 pub mod Sources
 pub mod Tasks
+pub mod Values

@@ -3,4 +3,5 @@ mod ExecBack
 mod FileBack
 mod FitLemmas
 mod OpBack
+mod PlacesBack
 mod SourceBack

@@ -1,6 +1,10 @@
+mod AddressedFacts
 mod ConfigFacts
+mod DescendFacts
 mod DotFacts
+mod EngineFacts
 mod FirstFacts
+mod ImageFacts
 mod InputFacts
 mod LlbFacts
 mod TaskFacts

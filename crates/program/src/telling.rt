@@ -6,8 +6,7 @@ ghost use Rattle.build.specs.Ends.{devices};
 ghost use Rattle.program.specs.Telling.{TellingEnds};
 
 use crate::fault::TellFault;
-use crate::told::Told;
-use build::Status;
+use crate::told::{Ending, Told};
 use counted::{CountedRead, CountedWrite, read_all, write_all};
 use plain::limits::MOST_BUNDLE_BYTES;
 use std::alloc::Global;
@@ -17,12 +16,11 @@ use std::thread::Threads;
 /// What knows one thing to tell of a bundle, such as its faults.
 pub(crate) trait Teller {
     ghost use Rattle.std.specs.Thread.{IsSync};
-    ghost use Rattle.build.specs.Ends.{Answering};
-    ghost use Rattle.program.specs.Telling.{Stops};
+    ghost use Rattle.program.specs.Telling.{Stops, Telling};
     ghost use Rattle.program.specs.PrivateTelling.{IsToldBy, Moves, MovesStops};
 
-    // What is due of a bundle: a status, and the text that is written.
-    ghost tells: { Self → Answering };
+    // What is due of a bundle: a status, the text that is written, and what is noted of it.
+    ghost tells: { Self → Telling };
 
     // Of which bundles nothing is due, and with which fault that ends.
     ghost stops: { Self → Stops };
@@ -47,8 +45,8 @@ pub(crate) trait Teller {
 
 /// Reads a bundle, and writes what a teller tells of it.
 ///
-/// The status is the teller's. Nothing was written after `Memory`. After `Device` a read failed, and nothing was written, or a write failed, and a
-/// beginning was. After `Clash` and `Unspeakable`, with which a teller says that nothing is due, nothing was written.
+/// The status and the note are the teller's. Nothing was written after `Memory`. After `Device` a read failed, and nothing was written, or a write
+/// failed, and a beginning was. After `Clash` and `Unspeakable`, with which a teller says that nothing is due, nothing was written.
 #[tactic(auto, unfolding(plain::specs::Limits::most_bundle_bytes))]
 pub(crate) fn tell_bundle<T: Teller, R: CountedRead, W: CountedWrite>(
     alloc: Global,
@@ -57,7 +55,7 @@ pub(crate) fn tell_bundle<T: Teller, R: CountedRead, W: CountedWrite>(
     teller: &T,
     input: &mut R,
     output: &mut W,
-) -> Result<Status, TellFault>
+) -> Result<Ending, TellFault>
     requires reads { R.failures input.old < u64.MAX }
     requires writes { W.failures output.old < u64.MAX }
     ensures ends { TellingEnds (T.tells teller.now) (T.stops teller.now)
@@ -78,7 +76,7 @@ fn tell_within<T: Teller, R: CountedRead, W: CountedWrite>(
     teller: &T,
     input: &mut R,
     output: &mut W,
-) -> Result<Status, TellFault>
+) -> Result<Ending, TellFault>
     requires limit { most ≡ most_bundle_bytes }
     requires room { most < usize.MAX }
     requires reads { R.failures input.old < u64.MAX }
@@ -92,8 +90,9 @@ fn tell_within<T: Teller, R: CountedRead, W: CountedWrite>(
     let bytes = read_all(alloc, input, most + 1)?;
     match teller.tell(alloc, keys, rt, bytes.as_slice()) {
         Ok(told) => {
-            write_all(output, told.text.as_slice())?;
-            Ok(told.status)
+            let Told { status, text, note } = told;
+            write_all(output, text.as_slice())?;
+            Ok(Ending { status, note })
         }
         Err(fault) => Err(fault),
     }

@@ -1,5 +1,6 @@
 pub mod Failing
 pub mod Json
+pub mod Level
 pub mod Message
 pub mod Showing
 pub mod Subject

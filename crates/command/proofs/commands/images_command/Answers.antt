@@ -1,0 +1,10 @@
+use Rattle.std.proofs.Common.{codes}
+use Rattle.clap.specs.Words.{new_app, with_rule}
+use Rattle.command.specs.CommandLine.{text_option}
+use Rattle.command.proofs.commands.images_command.Goals as goal
+
+pub returns-clause-app : goal.returns-clause-app
+returns-clause-app c = c.with_source.ensures.app (with_rule (new_app (codes "images")) (text_option (codes "platform"))) (c.with_argument-command.ensures.app (new_app (codes "images")) (text_option (codes "platform")) c.described-command.ensures.app c.text_option-platform.ensures.rule)
+
+pub returns-clause-local : goal.returns-clause-local
+returns-clause-local c = c.with_source.ensures.local (c.with_argument-command.ensures.local c.described-command.ensures.local)

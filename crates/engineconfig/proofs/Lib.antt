@@ -1,0 +1,6 @@
+mod Characters
+mod EntryFacts
+mod FloatFacts
+mod LawFacts
+mod PortFacts
+mod WalkFacts

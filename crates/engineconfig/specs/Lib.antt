@@ -1,0 +1,11 @@
+pub mod Agrees
+pub mod Entry
+pub mod Engine
+pub mod Inherited
+pub mod Instant
+pub mod Lineage
+pub mod Standing
+pub mod Steps
+pub mod PrivatePorts
+pub mod PrivateWalk
+pub mod Texts
