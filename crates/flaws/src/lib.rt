@@ -19,6 +19,7 @@ mod kinds;
 pub mod laws;
 mod looking;
 mod placing;
+mod settings;
 mod whole;
 
 pub use flaw::{Flaw, Step};
