@@ -4,82 +4,93 @@ import (
 	"context"
 	"encoding/hex"
 	"encoding/json"
+	"path"
 	"strings"
 
 	"github.com/moby/buildkit/client/llb"
-	"github.com/moby/buildkit/frontend/dockerui"
 	"github.com/moby/buildkit/frontend/gateway/client"
 	"github.com/moby/buildkit/solver/pb"
+	digest "github.com/opencontainers/go-digest"
 	"github.com/pkg/errors"
 )
 
-const ignoreFile = dockerui.DefaultDockerignoreName
+const (
+	defaultFile = "Dockerfile"
+	ignoreFile  = ".dockerignore"
+)
 
-// entry is a file or a folder of a bundle's context. Of a file only the name counts, but for the ignore file.
-type entry struct {
-	Path string  `json:"path"`
-	Dir  bool    `json:"dir,omitempty"`
-	Text *string `json:"text,omitempty"`
-	Hex  string  `json:"hex,omitempty"`
-	// Link is what only this program reads: whether there is neither a file nor a folder
-	Link bool `json:"link,omitempty"`
+// source is a file that an error or a warning may point at.
+type source struct {
+	name       string
+	data       []byte
+	definition *llb.Definition
+	head       digest.Digest
+}
+
+func (s *source) info() *pb.SourceInfo {
+	return &pb.SourceInfo{Filename: s.name, Data: s.data, Language: "Dockerfile", Definition: s.definition.ToPB()}
 }
 
 // readDockerfile reads the Dockerfile, and beside it the ignore file of its own, if there is one.
-func (b *build) readDockerfile(ctx context.Context) (err error) {
-	if b.file, err = b.own.ReadEntrypoint(ctx, "Dockerfile"); err != nil {
+func (b *build) readDockerfile(ctx context.Context) error {
+	name := b.options.filename
+	wanted := []string{name, name + ignoreFile}
+	lower := path.Join(path.Dir(name), strings.ToLower(defaultFile))
+	if path.Base(name) == defaultFile {
+		wanted = append(wanted, lower)
+	}
+	found, err := b.read(ctx, b.options.dockerfile, "load build definition from "+name, wanted...)
+	if err != nil {
 		return err
 	}
-	b.ignore, err = b.read(ctx, *b.file.State, b.file.Filename+ignoreFile)
+	if b.file = found[name]; b.file == nil {
+		b.file = found[lower]
+	}
+	if b.file == nil {
+		return errors.Errorf("there is no file %s in the folder of the Dockerfile: the option filename names another", name)
+	}
+	b.ignore = found[name+ignoreFile]
+	return nil
+}
+
+// readIgnoreFile reads the ignore file of the context, unless the Dockerfile has its own.
+func (b *build) readIgnoreFile(ctx context.Context) error {
+	if b.ignore != nil {
+		return nil
+	}
+	found, err := b.read(ctx, "context", "load "+ignoreFile, ignoreFile)
+	b.ignore = found[ignoreFile]
 	return err
 }
 
-// readIgnoreFile reads the ignore file of the context, unless the Dockerfile has its own. It has a copy of its own in the engine: else the
-// engine would drop all other files of the folder from the copy that it keeps for later builds.
-func (b *build) readIgnoreFile(ctx context.Context) (err error) {
-	if b.ignore == nil {
-		b.ignore, err = b.read(ctx, b.local("load "+ignoreFile, llb.SharedKeyHint(b.context+"-"+ignoreFile), llb.FollowPaths([]string{ignoreFile}),
-			llb.Differ(llb.DiffNone, false)), ignoreFile)
-	}
-	return err
-}
-
-// local is a part of the client's folder of the context. Without the session in it, two builds at once would be one.
-func (b *build) local(title string, more ...llb.LocalOption) llb.State {
-	return llb.Local(b.context, append([]llb.LocalOption{llb.SessionID(b.given.SessionID), dockerui.WithInternalName(title)}, more...)...)
-}
-
-// solved is the tree of a state.
-func (b *build) solved(ctx context.Context, state llb.State) (client.Reference, *llb.Definition, error) {
-	definition, err := state.Marshal(ctx)
+// read takes files of a folder of the client. One that isn't there isn't in the answer.
+func (b *build) read(ctx context.Context, folder, title string, names ...string) (map[string]*source, error) {
+	ref, definition, err := b.solved(ctx, b.local(folder, title, llb.FollowPaths(names), llb.Differ(llb.DiffNone, false)))
 	if err != nil {
-		return nil, nil, err
+		return nil, errors.Wrapf(err, "the client's folder %s can't be read", folder)
 	}
-	result, err := b.c.Solve(ctx, client.SolveRequest{Definition: definition.ToPB()})
+	head, err := definition.Head()
 	if err != nil {
-		return nil, nil, err
-	}
-	ref, err := result.SingleRef()
-	return ref, definition, err
-}
-
-// read takes a file of a folder. There is none if the folder hasn't got it.
-func (b *build) read(ctx context.Context, folder llb.State, name string) (*llb.SourceMap, error) {
-	ref, definition, err := b.solved(ctx, folder)
-	if err != nil || ref == nil {
 		return nil, err
 	}
-	data, err := ref.ReadFile(ctx, client.ReadRequest{Filename: name})
-	// (of an error nothing but its text comes through the connection)
-	if err != nil && strings.Contains(err.Error(), "no such file or directory") {
-		return nil, nil
+	found := map[string]*source{}
+	if ref == nil {
+		return found, nil
 	}
-	return &llb.SourceMap{Definition: definition, Filename: name, Data: data}, errors.Wrapf(err, "the file %s", name)
+	for _, name := range names {
+		data, err := ref.ReadFile(ctx, client.ReadRequest{Filename: name})
+		if err == nil {
+			found[name] = &source{name, data, definition, head}
+		} else if !isNotThere(err) {
+			return nil, errors.Wrapf(err, "the file %s", name)
+		}
+	}
+	return found, nil
 }
 
-// infoOf is what a client shows lines of.
-func infoOf(it *llb.SourceMap) *pb.SourceInfo {
-	return &pb.SourceInfo{Filename: it.Filename, Data: it.Data, Language: it.Language, Definition: it.Definition.ToPB()}
+// isNotThere says whether a file isn't there. Of an error nothing but its text comes through the connection.
+func isNotThere(err error) bool {
+	return strings.Contains(err.Error(), "no such file or directory")
 }
 
 // bundle is what dfsolve is given for one platform.
@@ -92,7 +103,7 @@ func (v *variant) bundle(names []entry) ([]byte, error) {
 	}
 	if v.ignore != nil {
 		// the ignore file stands at this path, whatever it is called and wherever it is from
-		e := entry{Path: "/" + ignoreFile, Hex: hex.EncodeToString(v.ignore.Data)}
+		e := entry{Path: "/" + ignoreFile, Hex: hex.EncodeToString(v.ignore.data)}
 		if e.Hex == "" {
 			e.Text = new(string)
 		}
@@ -101,11 +112,11 @@ func (v *variant) bundle(names []entry) ([]byte, error) {
 	made := map[string]interface{}{
 		"args":       v.arguments(),
 		"context":    context,
-		"dockerfile": map[string]string{"hex": hex.EncodeToString(v.file.Data)},
-		"images":     v.images,
+		"dockerfile": map[string]string{"hex": hex.EncodeToString(v.file.data)},
+		"images":     v.images.found,
 	}
-	if v.own.Target != "" {
-		made["target"] = v.own.Target
+	if v.options.target != "" {
+		made["target"] = v.options.target
 	}
 	text, err := json.Marshal(made)
 	return text, errors.Wrap(err, "the bundle")

@@ -4,128 +4,160 @@ import (
 	"bytes"
 	"context"
 	"encoding/json"
-	"fmt"
-	"slices"
 	"strings"
+	"sync"
 
 	"github.com/containerd/containerd/platforms"
 	"github.com/distribution/reference"
 	"github.com/moby/buildkit/client/llb/sourceresolver"
-	"github.com/moby/buildkit/frontend/dockerfile/dockerfile2llb"
-	"github.com/moby/buildkit/solver/pb"
 	"github.com/pkg/errors"
 	"golang.org/x/sync/errgroup"
 )
 
-// image is an image of a bundle. The definition names it, and BuildKit has its tree.
-type image struct {
-	Config json.RawMessage `json:"config"`
-	Digest string          `json:"digest,omitempty"`
-	Tree   []entry         `json:"tree"`
+// images are those that a Dockerfile names, for one platform.
+type images struct {
+	found map[string]image
+	// lines are the places that name one, for errors
+	lines map[string]fault
+	// stubs are those that weren't asked for, as no stage that is needed names them. No definition names one either.
+	stubs map[string]bool
 }
 
-// naming is an image that stages name: a line of `dfsolve images`.
-type naming struct {
-	Name   string
-	Lines  []int32
-	Needed bool
+// stub stands in a bundle for an image that isn't needed: nothing is fetched for it, and nothing fails for want of it.
+func (v *variant) stub() image {
+	config := map[string]interface{}{"architecture": v.platform.Architecture, "os": v.platform.OS,
+		"rootfs": map[string]interface{}{"type": "layers", "diff_ids": []string{}}}
+	text, err := json.Marshal(config)
+	if err != nil {
+		panic(err) // texts and lists of texts are always JSON
+	}
+	return image{Config: text, Tree: []entry{}}
 }
 
-// findImages asks for the images that are needed, all at once.
-func (v *variant) findImages(ctx context.Context) error {
+// findImages finds which images are named, and asks for those that are needed.
+func (v *variant) findImages(ctx context.Context) (*images, error) {
+	v.images = &images{found: map[string]image{}, lines: map[string]fault{}, stubs: map[string]bool{}}
+	if err := v.nameImages(ctx); err != nil {
+		return nil, err
+	}
+	if err := v.resolveNeeded(ctx); err != nil {
+		return nil, err
+	}
 	bundle, err := v.bundle(nil)
 	if err != nil {
-		return err
+		return nil, err
 	}
-	out, err := v.written(ctx, bundle, "images", "--platform", platforms.Format(v.platform))
-	if err != nil {
-		return err
+	faults, err := v.faults(ctx, bundle)
+	if err == nil && len(faults) > 0 {
+		err = v.refused(faults)
 	}
-	rows, err := linesOf[naming](out)
-	if err != nil {
-		return err
-	}
-	found := make([]image, len(rows))
-	group, within := errgroup.WithContext(ctx)
-	for n, row := range rows {
-		group.Go(func() (err error) {
-			if found[n], err = v.resolve(within, row); err != nil {
-				err = v.missing(ctx, bundle, row, err)
-			}
+	return v.images, err
+}
+
+// resolveNeeded asks for the images that are needed. With the configuration of one, more may be known to be.
+func (v *variant) resolveNeeded(ctx context.Context) error {
+	for len(v.images.stubs) > 0 {
+		needed, err := v.needed(ctx)
+		if err != nil || len(needed) == 0 {
 			return err
-		})
-	}
-	if err := group.Wait(); err != nil {
-		return err
-	}
-	for n, row := range rows {
-		v.images[row.Name] = found[n]
-		if row.Needed {
-			v.warn(ctx, unmet(row, found[n]))
+		}
+		if err := v.resolveAll(ctx, needed); err != nil {
+			return err
 		}
 	}
 	return nil
 }
 
-// missing is the error about an image that can't be had, with what dfsolve warns of where it is named: it may be no image that is meant. If a
-// stage has its name, BuildKit would have refused it, and so it is said in BuildKit's words.
-func (v *variant) missing(ctx context.Context, bundle []byte, row naming, err error) error {
-	err = errors.Wrapf(err, "%s:%d: the image %s", v.file.Filename, row.Lines[0], row.Name)
-	if list, _ := dockerfile2llb.ListTargets(ctx, v.file.Data); list != nil {
-		for _, stage := range list.Targets {
-			if strings.EqualFold(stage.Name, row.Name) {
-				err = errors.Wrapf(err, "cannot copy from stage %q, it needs to be defined before current stage", row.Name)
-			}
+// needed are the images without a configuration that the graph of a build has. If there is no graph without their configurations, it is all
+// of them.
+func (v *variant) needed(ctx context.Context) ([]string, error) {
+	bundle, err := v.bundle(nil)
+	if err != nil {
+		return nil, err
+	}
+	out, status, err := called(ctx, bundle, "graph")
+	if err != nil {
+		return nil, err
+	}
+	var graph struct{ Ops []struct{ Source string } }
+	if status == answered {
+		if err := json.Unmarshal(out, &graph); err != nil {
+			return nil, errors.Wrap(err, "what dfsolve graph prints")
 		}
 	}
-	warnings, _ := v.check(ctx, bundle)
-	for _, f := range warnings {
-		if slices.Contains(row.Lines, f.Line) {
-			err = errors.Wrap(err, v.sentence(f))
+	var names []string
+	for _, op := range graph.Ops {
+		if name, is := strings.CutPrefix(op.Source, "image:"); is && v.images.stubs[name] {
+			names = append(names, name)
 		}
 	}
-	lines := []*pb.Range{}
-	for _, line := range row.Lines {
-		lines = append(lines, fault{Line: line}.lines())
+	if status != answered {
+		for name := range v.images.stubs {
+			names = append(names, name)
+		}
 	}
-	return around(err, v.file.SourceMap, lines...)
+	return names, nil
 }
 
-// resolve asks for one image. Its digest goes into the bundle, so that its tag can't move before the build is made. In the place of one that
-// isn't needed stands an empty one: nothing is fetched for it, and nothing fails for want of it.
-func (v *variant) resolve(ctx context.Context, row naming) (image, error) {
-	if !row.Needed {
-		config := fmt.Sprintf(`{"architecture":%q,"os":%q,"rootfs":{"type":"layers","diff_ids":[]}}`, v.platform.Architecture, v.platform.OS)
-		return image{Config: json.RawMessage(config), Tree: []entry{}}, nil
+// resolveAll asks for the configurations of images, all at once.
+func (v *variant) resolveAll(ctx context.Context, names []string) error {
+	var lock sync.Mutex
+	group, ctx := errgroup.WithContext(ctx)
+	for _, name := range names {
+		group.Go(func() error {
+			found, err := v.resolve(ctx, name)
+			if err != nil {
+				return v.placed(err, v.images.lines[name])
+			}
+			lock.Lock()
+			defer lock.Unlock()
+			v.images.found[name] = found
+			delete(v.images.stubs, name)
+			return nil
+		})
 	}
-	whole, err := reference.ParseNormalizedNamed(row.Name)
+	return group.Wait()
+}
+
+// resolve asks for one image. Its digest goes into the bundle, so that its tag can't move before the build is made.
+func (v *variant) resolve(ctx context.Context, name string) (image, error) {
+	whole, err := reference.ParseNormalizedNamed(name)
 	if err != nil {
-		return image{}, err
+		return image{}, errors.Wrapf(err, "%q is no name of an image", name)
 	}
 	_, digest, config, err := v.c.ResolveImageConfig(ctx, reference.TagNameOnly(whole).String(), sourceresolver.Opt{
 		Platform: &v.platform,
-		LogName:  "[internal] load metadata for " + row.Name + " for " + platforms.Format(v.platform),
-		ImageOpt: &sourceresolver.ResolveImageOpt{ResolveMode: v.own.ImageResolveMode.String()},
+		LogName:  "[internal] load metadata for " + name + " for " + platforms.Format(v.platform),
+		ImageOpt: &sourceresolver.ResolveImageOpt{ResolveMode: v.options.resolve},
 	})
-	if err == nil && !json.Valid(config) {
-		err = errors.New("its configuration is no JSON")
+	if err != nil {
+		return image{}, errors.Wrapf(err, "the image %s", name)
 	}
-	// of an image without layers BuildKit itself writes null (what stands in a text has a \ before its quotes)
-	config = bytes.Replace(config, []byte(`"diff_ids":null`), []byte(`"diff_ids":[]`), 1)
-	return image{Config: config, Digest: digest.String(), Tree: []entry{}}, err
+	config, err = listed(config)
+	if err != nil {
+		return image{}, errors.Wrapf(err, "the configuration of the image %s", name)
+	}
+	v.warnOfBase(ctx, name, config)
+	return image{Config: config, Digest: digest.String(), Tree: []entry{}}, nil
 }
 
-// unmet warns of what an image's configuration asks for that does nothing here.
-func unmet(row naming, it image) (warnings []fault) {
-	var made struct {
-		Config map[string]json.RawMessage
+// listed is a configuration whose list of layers is one: of an image without layers BuildKit itself writes null.
+func listed(config []byte) ([]byte, error) {
+	made := map[string]json.RawMessage{}
+	if err := json.Unmarshal(config, &made); err != nil {
+		return nil, errors.Wrap(err, "it is no JSON object")
 	}
-	_ = json.Unmarshal(it.Config, &made) // dfsolve says what is wrong with it
-	for _, key := range []string{"OnBuild", "Shell", "Healthcheck"} {
-		if held := string(made.Config[key]); held != "" && held != "null" && held != "[]" {
-			text := "the image " + row.Name + " has " + key + ", which does nothing here: write it again in the Dockerfile"
-			warnings = append(warnings, fault{Message: text, Line: row.Lines[0]})
-		}
+	layers := map[string]json.RawMessage{}
+	if err := json.Unmarshal(made["rootfs"], &layers); err != nil {
+		return config, nil // dfsolve says what is wrong with it
 	}
-	return warnings
+	if !bytes.Equal(layers["diff_ids"], []byte("null")) {
+		return config, nil
+	}
+	layers["diff_ids"] = json.RawMessage("[]")
+	var err error
+	if made["rootfs"], err = json.Marshal(layers); err != nil {
+		return nil, err
+	}
+	return json.Marshal(made)
 }

@@ -5,12 +5,12 @@
 // names of the context and the configurations of images, has dfsolve write the definition and the configuration, and has BuildKit solve
 // that.
 //
-// It decides nothing about the language, and nothing of it is proved. What a Dockerfile means, which images it names, which faults it has,
-// and what the definition and the configuration say is dfsolve's. Two requests that build nothing, for the stages and for the outline of a
-// file, are answered by BuildKit's own reading of it.
+// It decides nothing about the language, and nothing of it is proved. What a Dockerfile means, which faults it has, and what the definition
+// says is dfsolve's. What dfsolve hasn't got yet is done here in its place: all of that is in standin.go, reading.go and warnings.go, with
+// what will come for it.
 //
-// It takes no context from elsewhere (git, http, an archive), no named contexts and no inputs. The table of options below says what becomes
-// of each: nothing is ignored.
+// It takes no context from elsewhere (git, http, an archive), no named contexts and no inputs. These, and options that it doesn't know, are
+// refused by their names: nothing is ignored. options.go has the lists.
 //
 // Standard input and output are the connection to BuildKit, and standard error is the daemon's log: nothing may be printed.
 package main
@@ -19,82 +19,21 @@ import (
 	"context"
 	"crypto/rand"
 	"encoding/hex"
+	"encoding/json"
 	"fmt"
 	"os"
-	"strings"
-	"sync"
-	"unicode/utf8"
 
 	"github.com/containerd/containerd/platforms"
 	"github.com/moby/buildkit/client/llb"
-	"github.com/moby/buildkit/frontend/dockerfile/dockerfile2llb"
-	"github.com/moby/buildkit/frontend/dockerfile/parser"
-	"github.com/moby/buildkit/frontend/dockerui"
+	"github.com/moby/buildkit/exporter/containerimage/exptypes"
 	"github.com/moby/buildkit/frontend/gateway/client"
 	"github.com/moby/buildkit/frontend/gateway/grpcclient"
-	"github.com/moby/buildkit/frontend/subrequests/outline"
-	"github.com/moby/buildkit/frontend/subrequests/targets"
+	"github.com/moby/buildkit/solver/pb"
 	"github.com/moby/buildkit/util/appcontext"
-	dockerspec "github.com/moby/docker-image-spec/specs-go/v1"
 	ocispecs "github.com/opencontainers/image-spec/specs-go/v1"
 	"github.com/pkg/errors"
+	"golang.org/x/sync/errgroup"
 )
-
-// What becomes of each option. One that isn't here is refused by its name, and so is one that has a sentence here, unless its value is empty:
-// then it asks for nothing. A name that ends with a colon stands for all that begin with it. Each option that docker 26.1.5, buildx 0.13.1
-// and buildctl 0.13.2 send of themselves is here: that was read off their sources. BuildKit's own package dockerui reads the values.
-var options = map[string]string{
-	// where the files are
-	"filename": "", "contextkey": "", "dockerfilekey": "",
-	// what a bundle says, and how many there are
-	"target": "", "build-arg:": "", "platform": "", "multi-platform": "",
-	// what `dfsolve llb` is told, and `dfsolve config`
-	"add-hosts": "", "cgroup-parent": "", "force-network-mode": "", "hostname": "", "no-cache": "", "shm-size": "", "ulimit": "",
-	"label:": "",
-	// how images are asked for, and definitions solved
-	"image-resolve-mode": "", "cache-from": "", "cache-imports": "",
-	// a request in place of a build
-	"requestid": "",
-	// the engine's own: this front end's image, the words after `# syntax=`, what the image has to be capable of, attestations of the result,
-	// and where the folder is from
-	"source": "", "cmdline": "", "frontend.caps": "", "attest:": "", "vcs:": "",
-
-	"build-arg:BUILDKIT_CACHE_MOUNT_NS":       "caches have no spaces of names: put the text into their `id`",
-	"build-arg:BUILDKIT_CONTEXT_KEEP_GIT_DIR": "a context from git isn't taken: give the build a folder",
-	"build-arg:BUILDKIT_DISABLE_FILEOP":       "operations of files are always used",
-	"build-arg:BUILDKIT_DOCKERFILE_CHECK":     "its rules aren't known: run `dfsolve check`",
-	"build-arg:BUILDKIT_SBOM_SCAN_CONTEXT":    "only the result is scanned",
-	"build-arg:BUILDKIT_SBOM_SCAN_STAGE":      "only the result is scanned",
-	"context":                                 "a context from elsewhere isn't taken: give the build a folder",
-	"context:":                                "named contexts aren't taken: name the image in the Dockerfile, or copy the folder into the context",
-	"contextsubdir":                           "a folder in a context from elsewhere isn't taken: give the build that folder",
-	"input-metadata:":                         "inputs aren't taken: give the build a folder",
-	"local-sessionid:":                        "a folder of another session isn't taken: give the build a folder",
-	"override-copy-image":                     "operations of files are always used",
-}
-
-// refuse is an error about the first option that asks for what this front end hasn't got, or that isn't known.
-func refuse(given map[string]string) error {
-	for _, name := range sorted(given) {
-		why, is := options[name]
-		if before, _, isLong := strings.Cut(name, ":"); !is && isLong {
-			why, is = options[before+":"]
-		}
-		// an image of a named context may be this front end
-		if name == "context:"+given["source"] || given[name] == "" {
-			why = ""
-		}
-		if !is {
-			why = "isn't known here"
-		} else if !utf8.ValidString(given[name]) {
-			why = "its value isn't UTF-8"
-		}
-		if why != "" {
-			return errors.Errorf("the option %s: %s", name, why)
-		}
-	}
-	return nil
-}
 
 func main() {
 	if len(os.Args) == 4 && os.Args[1] == listing {
@@ -113,43 +52,34 @@ func main() {
 // build is what is the same for all platforms of one build.
 type build struct {
 	c       client.Client
-	own     *dockerui.Client // the options, as BuildKit reads them
 	given   client.BuildOpts
-	context string           // what the client calls the folder of the context
-	file    *dockerui.Source // the Dockerfile
-	ignore  *llb.SourceMap   // the ignore file, or nil
-	unique  string           // a text that no other build has: BuildKit takes two builds with one definition for one
-	told    sync.Map         // warnings that the client knows
+	options *options
+	file    *source // the Dockerfile
+	ignore  *source // the ignore file, or nil
+	unique  string
 }
 
 // variant is a build for one platform.
 type variant struct {
 	*build
 	platform ocispecs.Platform
-	images   map[string]image
+	images   *images
+	follows  *follows
 }
 
 func solve(ctx context.Context, c client.Client) (*client.Result, error) {
-	if err := refuse(c.BuildOpts().Opts); err != nil {
+	given := c.BuildOpts()
+	options, err := read(given)
+	if err != nil {
 		return nil, err
 	}
-	own, err := dockerui.NewClient(c)
+	unique, err := random()
 	if err != nil {
-		return nil, errors.Wrap(err, "the options")
+		return nil, err
 	}
-	if len(own.TargetPlatforms) == 0 {
-		own.TargetPlatforms = own.BuildPlatforms[:1]
-	}
-	drawn := make([]byte, 16)
-	if _, err := rand.Read(drawn); err != nil {
-		return nil, errors.Wrap(err, "no random text for the build")
-	}
-	b := &build{c: c, own: own, given: own.BuildOpts(), context: dockerui.DefaultLocalNameContext, unique: hex.EncodeToString(drawn)}
-	if name, is := b.given.Opts["contextkey"]; is {
-		b.context = name
-	}
-	if result, is, err := own.HandleSubrequest(ctx, dockerui.RequestHandler{ListTargets: b.targets, Outline: b.outline}); is || err != nil {
-		return result, err
+	b := &build{c: c, given: given, options: options, unique: unique}
+	if options.request != "" {
+		return b.answer(ctx)
 	}
 	if err := b.readDockerfile(ctx); err != nil {
 		return nil, err
@@ -158,73 +88,157 @@ func solve(ctx context.Context, c client.Client) (*client.Result, error) {
 		return nil, err
 	}
 	b.warnOfFile(ctx)
-	made, err := own.Build(ctx, b.made)
+	variants, err := b.variants(ctx)
 	if err != nil {
 		return nil, err
 	}
-	return made.Finalize()
-}
-
-// targets and outline are answered in place of a build. The client need not give the context for them.
-func (b *build) targets(ctx context.Context) (*targets.List, error) {
-	if err := b.readDockerfile(ctx); err != nil {
-		return nil, err
-	}
-	return dockerfile2llb.ListTargets(ctx, b.file.Data)
-}
-
-func (b *build) outline(ctx context.Context) (*outline.Outline, error) {
-	if err := b.readDockerfile(ctx); err != nil {
-		return nil, err
-	}
-	// what would be refused has no outline
-	if _, err := b.variant(ctx, b.own.TargetPlatforms[0]); err != nil {
-		return nil, err
-	}
-	return dockerfile2llb.Dockefile2Outline(ctx, b.file.Data, dockerfile2llb.ConvertOpt{Config: b.own.Config, Client: b.own, MetaResolver: b.c,
-		Warn: func(string, string, [][]byte, *parser.Range) {}})
-}
-
-// variant finds the images of a build for one platform. What it is warned of is told.
-func (b *build) variant(ctx context.Context, platform ocispecs.Platform) (*variant, error) {
-	v := &variant{build: b, platform: platforms.Normalize(platform), images: map[string]image{}}
-	if err := v.findImages(ctx); err != nil {
-		return nil, err
-	}
-	bundle, err := v.bundle(nil)
+	names, err := b.names(ctx, variants)
 	if err != nil {
 		return nil, err
 	}
-	warnings, err := v.check(ctx, bundle)
-	b.warn(ctx, warnings)
-	return v, err
+	return b.solveAll(ctx, variants, names)
 }
 
-// made is the tree and the configuration of one platform. The tree is nil if there is nothing to make. (No base is told of.)
-func (b *build) made(ctx context.Context, platform *ocispecs.Platform, _ int) (tree client.Reference, config, base *dockerspec.DockerOCIImage, err error) {
-	v, err := b.variant(ctx, *platform)
-	if err != nil {
-		return nil, nil, nil, err
+// random is a text that no other build has: BuildKit takes two builds with one definition for one.
+func random() (string, error) {
+	var drawn [16]byte
+	if _, err := rand.Read(drawn[:]); err != nil {
+		return "", errors.Wrap(err, "no random text for the build")
 	}
-	names, err := v.names(ctx)
-	if err != nil {
-		return nil, nil, nil, err
+	return hex.EncodeToString(drawn[:]), nil
+}
+
+// variants finds for each platform the images that are needed, and what is named of the context.
+func (b *build) variants(ctx context.Context) ([]*variant, error) {
+	found := make([]*variant, len(b.options.platforms))
+	group, ctx := errgroup.WithContext(ctx)
+	for n, p := range b.options.platforms {
+		v := &variant{build: b, platform: p}
+		found[n] = v
+		group.Go(func() (err error) {
+			if v.images, err = v.findImages(ctx); err != nil {
+				return err
+			}
+			// what is named of the context doesn't depend on what is in it
+			v.follows, err = v.findFollows(ctx)
+			return err
+		})
 	}
+	return found, group.Wait()
+}
+
+// solveAll solves each variant, and says in the result which one is which.
+func (b *build) solveAll(ctx context.Context, variants []*variant, names []entry) (*client.Result, error) {
+	result := client.NewResult()
+	table := exptypes.Platforms{Platforms: make([]exptypes.Platform, len(variants))}
+	group, ctx := errgroup.WithContext(ctx)
+	for n, v := range variants {
+		n, v := n, v
+		group.Go(func() error {
+			ref, config, err := v.solve(ctx, names)
+			if err != nil {
+				return err
+			}
+			id := platforms.Format(v.platform)
+			table.Platforms[n] = exptypes.Platform{ID: id, Platform: v.platform}
+			if b.options.isByPlatforms() {
+				result.AddRef(id, ref)
+				result.AddMeta(exptypes.ExporterImageConfigKey+"/"+id, config)
+			} else {
+				result.SetRef(ref)
+				result.AddMeta(exptypes.ExporterImageConfigKey, config)
+			}
+			return nil
+		})
+	}
+	if err := group.Wait(); err != nil {
+		return nil, err
+	}
+	said, err := json.Marshal(table)
+	if err != nil {
+		return nil, errors.Wrap(err, "the table of platforms")
+	}
+	result.AddMeta(exptypes.ExporterPlatformsKey, said)
+	return result, nil
+}
+
+// solve is the tree and the configuration of one platform. The tree is nil if there is nothing to make.
+func (v *variant) solve(ctx context.Context, names []entry) (client.Reference, []byte, error) {
 	bundle, err := v.bundle(names)
 	if err != nil {
-		return nil, nil, nil, err
+		return nil, nil, err
 	}
-	if config, err = v.configuration(ctx, bundle); err != nil {
-		return nil, nil, nil, err
-	}
-	definition, operations, err := v.definition(ctx, bundle)
-	if err != nil || isEmpty(operations) {
-		return nil, config, nil, err
-	}
-	result, err := b.c.Solve(ctx, client.SolveRequest{Definition: definition, CacheImports: b.own.CacheImports})
+	config, err := v.written(ctx, bundle, "config")
 	if err != nil {
-		return nil, nil, nil, err
+		return nil, nil, err
 	}
-	tree, err = result.SingleRef()
-	return tree, config, nil, err
+	if config, err = v.configuration(ctx, config); err != nil {
+		return nil, nil, err
+	}
+	definition, err := v.definition(ctx, bundle)
+	if err != nil {
+		return nil, nil, err
+	}
+	if isEmpty(definition) {
+		return nil, config, nil
+	}
+	result, err := v.c.Solve(ctx, client.SolveRequest{Definition: definition, CacheImports: v.options.caches})
+	if err != nil {
+		return nil, nil, err
+	}
+	ref, err := result.SingleRef()
+	return ref, config, err
+}
+
+// definition is what dfsolve writes of a bundle for this build's options.
+func (v *variant) definition(ctx context.Context, bundle []byte) (*pb.Definition, error) {
+	words := []string{"llb", "--unique", v.unique, "--platform", platforms.Format(v.platform), "--follow"}
+	if v.options.network != "" {
+		words = append(words, "--network", v.options.network)
+	}
+	if v.given.LLBCaps.Supports(pb.CapMergeOp) != nil {
+		words = append(words, "--merge", "chain")
+	}
+	written, err := v.written(ctx, bundle, words...)
+	if err != nil {
+		return nil, err
+	}
+	var definition pb.Definition
+	if err := definition.Unmarshal(written); err != nil {
+		return nil, errors.Wrap(err, "BuildKit can't read what dfsolve wrote")
+	}
+	return &definition, v.complete(ctx, &definition)
+}
+
+// local is a part of a folder of the client. Without the session in it, two builds at once would be one.
+func (b *build) local(name, title string, more ...llb.LocalOption) llb.State {
+	all := []llb.LocalOption{llb.SessionID(b.given.SessionID), llb.SharedKeyHint(name), llb.WithCustomName("[internal] " + title)}
+	return llb.Local(name, append(all, more...)...)
+}
+
+// solved is the tree of a state, and the definition that it was made by.
+func (b *build) solved(ctx context.Context, state llb.State) (client.Reference, *llb.Definition, error) {
+	definition, err := state.Marshal(ctx)
+	if err != nil {
+		return nil, nil, err
+	}
+	result, err := b.c.Solve(ctx, client.SolveRequest{Definition: definition.ToPB()})
+	if err != nil {
+		return nil, nil, err
+	}
+	ref, err := result.SingleRef()
+	return ref, definition, err
+}
+
+// isEmpty says whether a definition makes nothing but the root of an empty tree, which an end has to name.
+func isEmpty(definition *pb.Definition) bool {
+	if len(definition.Def) != 2 {
+		return false
+	}
+	var op pb.Op
+	if err := op.Unmarshal(definition.Def[0]); err != nil {
+		return false
+	}
+	actions := op.GetFile().GetActions()
+	return len(op.Inputs) == 0 && len(actions) == 1 && actions[0].GetMkdir().GetPath() == "/"
 }

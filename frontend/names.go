@@ -13,7 +13,6 @@ import (
 	"unicode/utf8"
 
 	"github.com/moby/buildkit/client/llb"
-	"github.com/moby/buildkit/frontend/dockerui"
 	"github.com/moby/buildkit/frontend/gateway/client"
 	"github.com/moby/buildkit/solver/pb"
 	"github.com/pkg/errors"
@@ -28,58 +27,84 @@ const (
 	// how many folders are read at once where there is no such command
 	width = 16
 	// how many paths dfsolve is asked about by one command line
-	batch = 1000
+	asked = 1000
+
+	isNeither = "the context has %q, which is neither a file nor a folder: take it away, or have the ignore file leave it out"
 )
 
-// names lists what the definition names of the context. What that is doesn't depend on what is in it.
-func (v *variant) names(ctx context.Context) ([]entry, error) {
+// follows is what a definition names of the context.
+type follows struct {
+	isUsed bool
+	paths  []string // none: all of it
+}
+
+// findFollows asks what a definition of a bundle without files names of the context.
+func (v *variant) findFollows(ctx context.Context) (*follows, error) {
 	bundle, err := v.bundle(nil)
 	if err != nil {
 		return nil, err
 	}
-	_, operations, err := v.definition(ctx, bundle)
+	written, err := v.written(ctx, bundle, "llb", "--unique", v.unique, "--follow")
 	if err != nil {
 		return nil, err
 	}
-	for _, op := range operations {
-		if source := op.GetSource(); source.GetIdentifier() == "local://"+v.context {
-			return v.listed(ctx, source.Attrs[pb.AttrFollowPaths])
-		}
+	var definition pb.Definition
+	if err := definition.Unmarshal(written); err != nil {
+		return nil, errors.Wrap(err, "BuildKit can't read what dfsolve wrote")
 	}
-	return nil, nil
+	found := &follows{}
+	return found, each(&definition, func(op *pb.Op) error {
+		source := op.GetSource()
+		if source.GetIdentifier() != "local://context" {
+			return nil
+		}
+		found.isUsed = true
+		if text := source.Attrs[pb.AttrFollowPaths]; text != "" {
+			return errors.Wrap(json.Unmarshal([]byte(text), &found.paths), "what the definition names of the context")
+		}
+		return nil
+	})
 }
 
-// listed lists what lies at some paths of the context, or all of it. If these are also the paths that the definition has, and nothing is left
-// out, the engine is sent the folder once for both.
-func (v *variant) listed(ctx context.Context, followed string) (names []entry, err error) {
-	var paths []string
-	if followed != "" {
-		if err := json.Unmarshal([]byte(followed), &paths); err != nil {
-			return nil, errors.Wrap(err, "what the definition names of the context")
+// each calls a function for each operation of a definition, in their order.
+func each(definition *pb.Definition, do func(*pb.Op) error) error {
+	for _, bytes := range definition.Def {
+		var op pb.Op
+		if err := op.Unmarshal(bytes); err != nil {
+			return errors.Wrap(err, "an operation of the definition")
+		}
+		if err := do(&op); err != nil {
+			return err
 		}
 	}
-	folder := v.local("list build context", llb.SharedKeyHint(v.context), llb.FollowPaths(paths), llb.ExcludePatterns(below(v.ignore)))
-	own, err := currentFrontend(v.c)
-	if err != nil {
-		return nil, err
-	}
-	if own != nil {
-		names, err = v.printed(ctx, *own, folder)
-	} else {
-		names, err = v.walked(ctx, folder)
-	}
-	if err != nil {
-		return nil, err
-	}
-	return names, v.refuseLinks(ctx, names)
+	return nil
 }
 
-// currentFrontend is the image of this program, or nil if the engine gives none, as BuildKit 0.8.
-func currentFrontend(c client.Client) (*llb.State, error) {
-	if it, is := c.(interface{ CurrentFrontend() (*llb.State, error) }); is {
-		return it.CurrentFrontend()
+// names lists what the variants name of the context. It is one list for all of them, so that the folder is read once.
+func (b *build) names(ctx context.Context, variants []*variant) ([]entry, error) {
+	isUsed, isWhole, paths := false, false, []string{}
+	for _, v := range variants {
+		isUsed = isUsed || v.follows.isUsed
+		isWhole = isWhole || (v.follows.isUsed && len(v.follows.paths) == 0)
+		paths = append(paths, v.follows.paths...)
 	}
-	return nil, nil
+	if !isUsed {
+		return nil, nil
+	}
+	more := []llb.LocalOption{llb.ExcludePatterns(below(b.ignore))}
+	if !isWhole {
+		more = append(more, llb.FollowPaths(paths))
+	}
+	context := b.local("context", "list build context", more...)
+	names, isTold, err := b.told(ctx, context)
+	if err == nil && !isTold {
+		names, err = b.walked(ctx, context)
+	}
+	if err != nil {
+		return nil, err
+	}
+	sort.Slice(names, func(i, j int) bool { return names[i].Path < names[j].Path })
+	return b.withoutLinks(ctx, variants[0], names)
 }
 
 // plain are the lines of an ignore file that mean one thing by any rules.
@@ -87,11 +112,12 @@ var plain = regexp.MustCompile(`^/?(\*\*/)?[A-Za-z0-9_@+.-]+(/[A-Za-z0-9_@+.-]+)
 
 // below are patterns for what lies in folders that the ignore file leaves out. dfsolve leaves out a folder whole, so their names are
 // enough, and what lies in them need not travel. The patterns only save work: names that are listed in excess do no harm.
-func below(ignore *llb.SourceMap) (list []string) {
-	if ignore == nil || strings.Contains(string(ignore.Data), "!") {
-		return nil // something may be kept in a folder
+func below(ignore *source) []string {
+	list := []string{}
+	if ignore == nil || strings.Contains(string(ignore.data), "!") {
+		return list // something may be kept in a folder
 	}
-	for _, line := range strings.Split(string(ignore.Data), "\n") {
+	for _, line := range strings.Split(string(ignore.data), "\n") {
 		if line = strings.TrimSuffix(line, "\r"); plain.MatchString(line) && path.Clean("/"+line) == "/"+strings.Trim(line, "/") {
 			list = append(list, strings.Trim(line, "/")+"/*")
 		}
@@ -99,24 +125,44 @@ func below(ignore *llb.SourceMap) (list []string) {
 	return list
 }
 
-// printed lists by a command, of this program's own image. What it writes is read in pieces, so it may be larger than a message.
-func (v *variant) printed(ctx context.Context, own, folder llb.State) (names []entry, err error) {
-	run := own.Run(llb.Args([]string{"/frontend", listing, "/context", "/out/names"}), llb.AddMount("/context", folder, llb.Readonly),
-		llb.Network(llb.NetModeNone), llb.ReadonlyRootFS(), dockerui.WithInternalName("names of the build context"))
-	ref, _, err := v.solved(ctx, run.AddMount("/out", llb.Scratch()))
+// told lists by a command, of this program's own image. What it writes is read in pieces, so it may be larger than a message. BuildKit 0.8
+// gives no image.
+func (b *build) told(ctx context.Context, context llb.State) ([]entry, bool, error) {
+	c, is := b.c.(interface{ CurrentFrontend() (*llb.State, error) })
+	if !is {
+		return nil, false, nil
+	}
+	own, err := c.CurrentFrontend()
+	if err != nil || own == nil {
+		return nil, false, err
+	}
+	run := own.Run(llb.Args([]string{"/frontend", listing, "/context", "/out/names"}), llb.AddMount("/context", context, llb.Readonly),
+		llb.Network(llb.NetModeNone), llb.ReadonlyRootFS(), llb.WithCustomName("[internal] names of the build context"))
+	ref, _, err := b.solved(ctx, run.AddMount("/out", llb.Scratch()))
 	if err != nil {
-		return nil, errors.Wrap(err, "the names of the context can't be listed")
+		return nil, false, errors.Wrap(err, "the names of the context can't be listed")
 	}
-	var text []byte
-	for isRead := false; !isRead; {
-		part, err := ref.ReadFile(ctx, client.ReadRequest{Filename: "names", Range: &client.FileRange{Offset: len(text), Length: piece}})
-		if err != nil {
-			return nil, errors.Wrap(err, "the names of the context can't be read")
-		}
-		text, isRead = append(text, part...), len(part) < piece
+	text, err := whole(ctx, ref, "names")
+	if err != nil {
+		return nil, false, err
 	}
+	var names []entry
 	err = json.Unmarshal(text, &names)
-	return names, errors.Wrap(err, "the names of the context")
+	return names, true, errors.Wrap(err, "the names of the context")
+}
+
+// whole reads a file in pieces.
+func whole(ctx context.Context, ref client.Reference, name string) ([]byte, error) {
+	var text []byte
+	for {
+		part, err := ref.ReadFile(ctx, client.ReadRequest{Filename: name, Range: &client.FileRange{Offset: len(text), Length: piece}})
+		if err != nil {
+			return nil, errors.Wrapf(err, "the file %s", name)
+		}
+		if text = append(text, part...); len(part) < piece {
+			return text, nil
+		}
+	}
 }
 
 // writeNames writes the names in a folder into a file, as entries of a bundle.
@@ -151,25 +197,25 @@ func named(path string, kind os.FileMode) entry {
 }
 
 // walked lists by a call for each folder, some at once.
-func (v *variant) walked(ctx context.Context, folder llb.State) ([]entry, error) {
-	ref, _, err := v.solved(ctx, folder)
+func (b *build) walked(ctx context.Context, context llb.State) ([]entry, error) {
+	ref, _, err := b.solved(ctx, context)
 	if err != nil || ref == nil {
 		return nil, err
 	}
 	names, lock, slots := []entry{}, sync.Mutex{}, make(chan struct{}, width)
 	group, ctx := errgroup.WithContext(ctx)
 	var walk func(string) error
-	walk = func(at string) error {
+	walk = func(folder string) error {
 		slots <- struct{}{}
-		rows, err := ref.ReadDir(ctx, client.ReadDirRequest{Path: at})
+		rows, err := ref.ReadDir(ctx, client.ReadDirRequest{Path: folder})
 		<-slots
 		if err != nil {
-			return errors.Wrapf(err, "the folder %s of the context", at)
+			return errors.Wrapf(err, "the folder %s of the context", folder)
 		}
 		lock.Lock()
 		defer lock.Unlock()
 		for _, row := range rows {
-			e := named(path.Join(at, path.Base(row.Path)), os.FileMode(row.Mode))
+			e := named(path.Join(folder, path.Base(row.Path)), os.FileMode(row.Mode))
 			names = append(names, e)
 			if e.Dir {
 				group.Go(func() error { return walk(e.Path) })
@@ -178,34 +224,38 @@ func (v *variant) walked(ctx context.Context, folder llb.State) ([]entry, error)
 		return nil
 	}
 	group.Go(func() error { return walk("/") })
-	err = group.Wait()
-	sort.Slice(names, func(i, j int) bool { return names[i].Path < names[j].Path })
-	return names, err
+	return names, group.Wait()
 }
 
-// refuseLinks refuses what is neither a file nor a folder, unless the ignore file leaves it out: then its name is enough, so that BuildKit
-// leaves it out too, and it passes for a file.
-func (v *variant) refuseLinks(ctx context.Context, names []entry) error {
+// withoutLinks refuses what is neither a file nor a folder, unless the ignore file leaves it out: then its name is enough, so that BuildKit
+// leaves it out too.
+func (b *build) withoutLinks(ctx context.Context, v *variant, names []entry) ([]entry, error) {
 	var links []string
 	for n := range names {
 		if names[n].Link {
 			links, names[n].Link = append(links, names[n].Path), false
 		}
 	}
+	if len(links) == 0 {
+		return names, nil
+	}
 	bundle, err := v.bundle(nil)
-	for begin := 0; err == nil && begin < len(links); begin += batch {
-		part := links[begin:min(begin+batch, len(links))]
-		out, err := v.written(ctx, bundle, append([]string{"why", "--"}, part...)...)
+	if err != nil {
+		return nil, err
+	}
+	for begin := 0; begin < len(links); begin += asked {
+		part := links[begin:min(begin+asked, len(links))]
+		out, err := b.written(ctx, bundle, append([]string{"why", "--"}, part...)...)
 		if err != nil {
-			return err
+			return nil, err
 		}
 		lines := strings.Split(string(out), "\n")
 		for n, link := range part {
 			// (a line's end in a name makes more lines than names)
 			if len(lines) != len(part)+1 || !strings.HasPrefix(lines[n], "left out\t") {
-				return errors.Errorf("the context has %q, which is neither a file nor a folder: take it away, or have the ignore file leave it out", link)
+				return nil, errors.Errorf(isNeither, link)
 			}
 		}
 	}
-	return err
+	return names, nil
 }

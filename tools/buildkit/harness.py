@@ -91,10 +91,9 @@ class Suite(Newer):
             version = re.search(r"github.com/moby/buildkit (v\S+)", it.read()).group(1)
         flags = f"-s -w -X github.com/moby/buildkit/version.Version={version}"
         os.makedirs(self.made, exist_ok=True)
-        # (`-trimpath` as for our front end, so that what they share is compiled once)
         for name in PROGRAMS:
-            self.go("build", "-trimpath", "-ldflags", flags, "-o", f"{self.made}/{os.path.basename(name)}", f"./{name}", path=path, cwd=home)
-        self.go("test", "-c", "-trimpath", "-vet=off", "-o", self.binary, f"./{TESTS}", path=path, cwd=home)
+            self.go("build", "-ldflags", flags, "-o", f"{self.made}/{os.path.basename(name)}", f"./{name}", path=path, cwd=home)
+        self.go("test", "-c", "-vet=off", "-o", self.binary, f"./{TESTS}", path=path, cwd=home)
 
     def prepare(self):
         self.fetch()

@@ -1,5 +1,5 @@
 -- What each phase of reading a bundle tells is what the bundle asks for.
-use Rattle.std.proofs.Common.{◌≡◌, inl, inr, [], ℕ, Bool, true, false, List, Result, Ok, Err, refl, sym, ap, ◌∙◌, subst, IfOk}
+use Rattle.std.proofs.Common.{◌≡◌, inl, inr, ℕ, List, Result, Ok, Err, refl, sym, subst, IfOk}
 use Rattle.std.specs.FinMap.{get}
 use Rattle.plain.specs.declared.fault.Fault.{Fault}
 use Rattle.plain.specs.declared.fault.Fault.TheVariants.{Because, Memory}
@@ -13,55 +13,27 @@ use Rattle.stages.specs.Table.{TableValue}
 use Rattle.evaluation.specs.Evaluated.{EvaluatesTable as Evaluates}
 use Rattle.imageconfig.specs.Reading.{config_in}
 use Rattle.imageconfig.specs.declared.config.Config.{Config}
-use Rattle.cachemounts.specs.StoreValue.{StoreValue}
 use Rattle.bundle.specs.declared.whole.Bundle.{Bundle}
 use Rattle.bundle.specs.Reading.{ReadsBundle}
-use Rattle.stubs.specs.Stubbing.{HoldsBy, IsGivenBy}
 use Rattle.build.specs.declared.asking.Asked.{Asked}
-use Rattle.build.specs.Meaning.{FileAsks}
-use Rattle.build.specs.PrivateAsking.{rejection_fault, IsBundleAsked, IsFileAsked, IsTableAsked}
-use Rattle.build.specs.Telling.{IsAskedBy, HasStoreOf}
+use Rattle.build.specs.PrivateAsking.{rejection_fault, IsFileAsked, IsTableAsked}
+use Rattle.build.specs.Telling.{IsAsked, HasStoreOf}
 
 -- the bytes are no bundle, or its ignore file is bad
-refusal_asked : (any : Bool) (bytes : List ℕ) (fault : Fault Refusal) → ReadsBundle config_in bytes (Err fault) → IsAskedBy any bytes (Err (rejection_fault fault))
-refusal_asked any bytes (Because refusal) told = inl (refusal, told, refl)
-refusal_asked any bytes Memory told = tt
+refusal_asked : (bytes : List ℕ) (fault : Fault Refusal) → ReadsBundle config_in bytes (Err fault) → IsAsked bytes (Err (rejection_fault fault))
+refusal_asked bytes (Because refusal) told = inl (refusal, told, refl)
+refusal_asked bytes Memory told = tt
 
-pub bundle_refused : (any : Bool) (bytes : List ℕ) (fault : Fault Refusal) (out : Fault Rejection) → ReadsBundle config_in bytes (Err fault) → out ≡ rejection_fault fault
-    → IsAskedBy any bytes (Err out)
-bundle_refused any bytes fault out told is = subst (λ f. IsAskedBy any bytes (Err f)) (sym is) (refusal_asked any bytes fault told)
+pub bundle_refused : (bytes : List ℕ) (fault : Fault Refusal) (out : Fault Rejection) → ReadsBundle config_in bytes (Err fault) → out ≡ rejection_fault fault
+    → IsAsked bytes (Err out)
+bundle_refused bytes fault out told is = subst (λ f. IsAsked bytes (Err f)) (sym is) (refusal_asked bytes fault told)
 
 -- they are a bundle
-pub bundle_asked : (any : Bool) (bytes : List ℕ) (bundle : Bundle Config) (result : Result Asked (Fault Rejection)) → ReadsBundle config_in bytes (Ok bundle)
-    → IsBundleAsked any bundle result → IsAskedBy any bytes result
-bundle_asked any bytes bundle (Ok asked) read asks = inr (bundle, read, asks)
-bundle_asked any bytes bundle (Err (Because refusal)) read asks = inr (bundle, read, asks)
-bundle_asked any bytes bundle (Err Memory) read asks = tt
-
--- what holds of the bundle that is given in place of one
-pub given_holds : (any : Bool) (P : Bundle Config → Type 0) (bundle given : Bundle Config) → IsGivenBy any bundle given → P given → HoldsBy any P bundle
-given_holds false P bundle given is holds = subst P is holds
-given_holds true P bundle given is holds = (given, is, holds)
-
--- it has the same caches
-given_caches : (any : Bool) (bundle given : Bundle Config) → IsGivenBy any bundle given → given.caches ≡ bundle.caches
-given_caches false bundle given is = ap (λ (b : Bundle Config). b.caches) is
-given_caches true bundle given is = ap (λ (b : Bundle Config). b.caches) is.rest
-
-pub given_idle : (any : Bool) (bundle given : Bundle Config) → IsGivenBy any bundle given → bundle.caches.holds ≡ [] → given.caches.holds ≡ []
-given_idle any bundle given is idle = ap (λ (store : StoreValue). store.holds) (given_caches any bundle given is) ∙ idle
-
-pub given_stored : (any : Bool) (bundle given : Bundle Config) (result : Result Asked (Fault Rejection)) → IsGivenBy any bundle given
-    → IfOk result (λ asked. asked.caches ≡ given.caches) → IfOk result (λ asked. asked.caches ≡ bundle.caches)
-given_stored any bundle given (Ok asked) is same = same ∙ given_caches any bundle given is
-given_stored any bundle given (Err fault) is same = same
-
--- what it asks for is asked for
-pub given_asked : (any : Bool) (bundle given : Bundle Config) (result : Result Asked (Fault Rejection)) → IsGivenBy any bundle given → IsFileAsked given result
-    → IsBundleAsked any bundle result
-given_asked any bundle given (Ok asked) is asks = given_holds any (λ b. FileAsks b (Ok asked.evaluated)) bundle given is asks
-given_asked any bundle given (Err (Because refusal)) is asks = given_holds any (λ b. FileAsks b (Err refusal)) bundle given is asks
-given_asked any bundle given (Err Memory) is asks = tt
+pub bundle_asked : (bytes : List ℕ) (bundle : Bundle Config) (result : Result Asked (Fault Rejection)) → ReadsBundle config_in bytes (Ok bundle)
+    → IsFileAsked bundle result → IsAsked bytes result
+bundle_asked bytes bundle (Ok asked) read asks = inr (bundle, read, asks)
+bundle_asked bytes bundle (Err (Because refusal)) read asks = inr (bundle, read, asks)
+bundle_asked bytes bundle (Err Memory) read asks = tt
 
 -- the caches are the bundle's
 pub bundle_stored : (bytes : List ℕ) (bundle : Bundle Config) (result : Result Asked (Fault Rejection)) → ReadsBundle config_in bytes (Ok bundle)

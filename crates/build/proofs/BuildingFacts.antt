@@ -24,7 +24,8 @@ use Rattle.answering.specs.declared.status.BuildFault.TheVariants.{Memory, Devic
 use Rattle.answering.specs.Faults.{of_edge}
 use Rattle.evaluation.specs.declared.evaluated.Evaluated.{Evaluated}
 use Rattle.build.specs.Meaning.{Asks, Answers}
-use Rattle.build.specs.Graph.{GraphAnswers, GraphClashes, IsGraphTold}
+use Rattle.build.specs.Graph.{GraphAnswers, GraphClashes}
+use Rattle.build.specs.PrivateShowing.{IsShown}
 use Rattle.answering.specs.Told.{IsTold}
 use Rattle.build.specs.PrivateTelling.{TellsBundle}
 use Rattle.build.specs.Ends.{Devices, IsAllLeft, Answering, AnswersUnder, HasAnswered, EndsBy, Ends, GraphEnds}
@@ -147,12 +148,12 @@ has_told out old new bytes (Err Clash) read ended reads = absurd ended
 
 -- the same of a graph
 pub graph_answered : (old new : Devices) (bytes line : List ℕ) (told : Told)
-    → IsReadOf old.left bytes → IsGraphTold false bytes (Ok told) → line ≡ told.line → Appends old.written new.written line
+    → IsReadOf old.left bytes → IsShown bytes (Ok told) → line ≡ told.line → Appends old.written new.written line
     → new.failed_reads ≡ old.failed_reads → new.failed_writes ≡ old.failed_writes → HasAnswered GraphAnswers old new told.status
 graph_answered old new bytes line told read tells is written reads writes = answered GraphAnswers graph_answers old new bytes line told read tells is written reads writes
 
 pub graph_begun : (old new : Devices) (bytes line : List ℕ) (told : Told) (fault : Fault Device)
-    → IsReadOf old.left bytes → IsGraphTold false bytes (Ok told) → line ≡ told.line → AppendsBeginning old.written new.written line
+    → IsReadOf old.left bytes → IsShown bytes (Ok told) → line ≡ told.line → AppendsBeginning old.written new.written line
     → new.failed_reads ≡ old.failed_reads → CountsFault {T = Unit {0}} old.failed_writes new.failed_writes (Err fault) → IsDevice fault
     → GraphEnds old new (Err (of_edge fault))
 graph_begun old new bytes line told fault read tells is written reads writes device =
@@ -160,7 +161,7 @@ graph_begun old new bytes line told fault read tells is written reads writes dev
 
 -- nothing was told of a bundle, and nothing was written
 pub graph_faulted : (old new : Devices) (bytes : List ℕ) (fault : BuildFault)
-    → IsReadOf old.left bytes → IsGraphTold false bytes (Err fault) → new.written ≡ old.written → new.failed_reads ≡ old.failed_reads → new.failed_writes ≡ old.failed_writes
+    → IsReadOf old.left bytes → IsShown bytes (Err fault) → new.written ≡ old.written → new.failed_reads ≡ old.failed_reads → new.failed_writes ≡ old.failed_writes
     → GraphEnds old new (Err fault)
 graph_faulted old new bytes Memory read told written reads writes = ((written, writes), reads)
 graph_faulted old new bytes FailedDevice read told written reads writes = absurd told

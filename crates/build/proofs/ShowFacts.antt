@@ -1,5 +1,5 @@
 -- The line that is shown of a bundle is the graph of what it asks for.
-use Rattle.std.proofs.Common.{◌≡◌, ℕ, Bool, List, Result, Ok, Err, sym, ap, ◌∙◌, subst}
+use Rattle.std.proofs.Common.{◌≡◌, ℕ, List, Result, Ok, Err, sym, ap, ◌∙◌, subst}
 use Rattle.plain.specs.declared.fault.Fault.{Fault}
 use Rattle.plain.specs.declared.fault.Fault.TheVariants.{Because}
 use Rattle.expand.specs.declared.reason.Rejection.{Rejection}
@@ -18,10 +18,10 @@ use Rattle.answering.specs.declared.status.BuildFault.{BuildFault}
 use Rattle.answering.specs.declared.status.BuildFault.TheVariants.{Memory, Device, Clash}
 use Rattle.answering.specs.declared.told.Told.{Told}
 use Rattle.counted.specs.Edges.{line_of}
-use Rattle.build.specs.Meaning.{AsksBy}
-use Rattle.build.specs.Graph.{IsGraphOf, IsGraphTold, Shows}
-use Rattle.build.specs.Telling.{IsAskedBy}
-use Rattle.build.specs.PrivateShowing.{ShowsAsked, PlanClashes, IsFileShown}
+use Rattle.build.specs.Meaning.{Asks}
+use Rattle.build.specs.Graph.{IsGraphOf, Shows}
+use Rattle.build.specs.Telling.{IsAsked}
+use Rattle.build.specs.PrivateShowing.{ShowsAsked, PlanClashes, IsFileShown, IsShown}
 
 tree_is : (made : Evaluated) (plan : PlanValue Config) (text : List ℕ) → Means plan made.rows made.target → plan.sources ≡ made.sources → (draws : Draws plan text)
     → (out : Out) → tree_of (value_of out made.sources draws.simple.graph.vertices draws.simple.target) ≡ tree_of_stage (world out made.sources) made.rows made.target
@@ -60,21 +60,20 @@ pub clash_shown : (made : Evaluated) (plan : PlanValue Config) (fault : Fault Cl
 clash_shown made plan fault clash because is means stands drawn = (plan, is, means, stands, subst (λ f. IsDrawn plan (Err f)) because drawn)
 
 -- what is shown of a file's stages is shown of the bundle that asks for them
-pub bundle_shown : (any : Bool) (bytes : List ℕ) (made : Evaluated) (result : Result Told BuildFault) → AsksBy any bytes (Ok made) → IsFileShown made result
-    → IsGraphTold any bytes result
-bundle_shown any bytes made (Ok told) asks shown = (shown.0, record { asked = Ok made; asks = asks; shows = shown.1 }, shown.2)
-bundle_shown any bytes made (Err Memory) asks shown = tt
-bundle_shown any bytes made (Err Device) asks shown = absurd shown
-bundle_shown any bytes made (Err Clash) asks clash = record { made = made; asks = asks; plan = clash.0; is = clash.1; means = clash.2; stands = clash.3; clashes = clash.4 }
+pub bundle_shown : (bytes : List ℕ) (made : Evaluated) (result : Result Told BuildFault) → Asks bytes (Ok made) → IsFileShown made result → IsShown bytes result
+bundle_shown bytes made (Ok told) asks shown = (shown.0, record { asked = Ok made; asks = asks; shows = shown.1 }, shown.2)
+bundle_shown bytes made (Err Memory) asks shown = tt
+bundle_shown bytes made (Err Device) asks shown = absurd shown
+bundle_shown bytes made (Err Clash) asks clash = record { made = made; asks = asks; plan = clash.0; is = clash.1; means = clash.2; stands = clash.3; clashes = clash.4 }
 
 -- a refusal that is told
-pub refusal_shown : (any : Bool) (bytes : List ℕ) (fault : Fault Rejection) (refusal : Rejection) (text : List ℕ) (told : Told) → fault ≡ Because refusal
-    → IsAskedBy any bytes (Err fault) → text ≡ refused_text refusal → told.status ≡ Refused → told.line ≡ line_of text → IsGraphTold any bytes (Ok told)
-refusal_shown any bytes fault refusal text told because asked is status line = (
+pub refusal_shown : (bytes : List ℕ) (fault : Fault Rejection) (refusal : Rejection) (text : List ℕ) (told : Told) → fault ≡ Because refusal → IsAsked bytes (Err fault)
+    → text ≡ refused_text refusal → told.status ≡ Refused → told.line ≡ line_of text → IsShown bytes (Ok told)
+refusal_shown bytes fault refusal text told because asked is status line = (
   text,
   record {
     asked = Err refusal;
-    asks = subst (λ f. IsAskedBy any bytes (Err f)) because asked;
+    asks = subst (λ f. IsAsked bytes (Err f)) because asked;
     shows = subst (λ s. Shows (Err refusal) s text) (sym status) is;
   },
   line,

@@ -1,5 +1,5 @@
 -- What is drawn of the bytes of a bundle: the graph of what they ask for, as a definition (own, after BuildKit's LLB definition).
-use Rattle.std.specs.Prelude.{◌≡◌, ℕ, Bool, false, List, Result, Ok, Err}
+use Rattle.std.specs.Prelude.{◌≡◌, ℕ, List, Result, Ok, Err}
 use Rattle.expand.specs.declared.reason.Rejection.{Rejection}
 use Rattle.plans.specs.Plan.{PlanValue, IsPlan}
 use Rattle.plans.specs.Value.{Out, value_of, tree_of}
@@ -8,14 +8,10 @@ use Rattle.evaluation.specs.declared.evaluated.Evaluated.{Evaluated}
 use Rattle.lowering.specs.Means.{world, Means, StandsFor}
 use Rattle.lowering.specs.Meaning.{tree_of_stage}
 use Rattle.drawing.specs.Drawn.{Draws, Clashes}
-use Rattle.counted.specs.Edges.{line_of}
 use Rattle.bundle.specs.Answer.{refused_text}
-use Rattle.answering.specs.declared.status.BuildFault.{BuildFault}
-use Rattle.answering.specs.declared.status.BuildFault.TheVariants.{Memory, Device, Clash}
 use Rattle.answering.specs.declared.status.Status.{Status}
 use Rattle.answering.specs.declared.status.Status.TheVariants.{Built, Failed, Refused}
-use Rattle.answering.specs.declared.told.Told.{Told}
-use Rattle.build.specs.Meaning.{AsksBy}
+use Rattle.build.specs.Meaning.{Asks}
 
 -- A text is the graph of what a file's stages give: it draws the plan that stands for the file, in which no vertex stands twice, so it is the
 -- definition of some vertices, all of which its result is or reaches; and under every executor the result has the target's tree, over the trees
@@ -37,33 +33,18 @@ Shows (Err refusal) Built text = ⊥
 Shows (Err refusal) Failed text = ⊥
 Shows (Err refusal) Refused text = text ≡ refused_text refusal
 
--- an answer of this status and text is the graph of a bundle of these bytes, or its refusal, where stubs may stand for the images that it lacks, or
--- may not
-pub record GraphAnswersBy (any : Bool) (bytes : List ℕ) (status : Status) (text : List ℕ) : Type 0 where
+-- an answer of this status and text is the graph of a bundle of these bytes, or its refusal
+pub record GraphAnswers (bytes : List ℕ) (status : Status) (text : List ℕ) : Type 0 where
   pub asked : Result Evaluated Rejection
-  pub asks : AsksBy any bytes asked
+  pub asks : Asks bytes asked
   pub shows : Shows asked status text
 
 -- two different operations of the plan that stands for what a bundle asks for have one address
-pub record GraphClashesBy (any : Bool) (bytes : List ℕ) : Type 0 where
+pub record GraphClashes (bytes : List ℕ) : Type 0 where
   pub made : Evaluated
-  pub asks : AsksBy any bytes (Ok made)
+  pub asks : Asks bytes (Ok made)
   pub plan : PlanValue Config
   pub is : IsPlan plan
   pub means : Means plan made.rows made.target
   pub stands : StandsFor plan made.rows made.target
   pub clashes : Clashes plan
-
--- the same where the images are all there
-abbrev pub GraphAnswers : List ℕ → Status → List ℕ → Type 0
-GraphAnswers bytes status text = GraphAnswersBy false bytes status text
-
-abbrev pub GraphClashes : List ℕ → Type 0
-GraphClashes bytes = GraphClashesBy false bytes
-
--- what is told of a bundle's graph: a text that answers so, and LF; or that two operations clash; want of memory says nothing
-abbrev pub IsGraphTold : Bool → List ℕ → Result Told BuildFault → Type 0
-IsGraphTold any bytes (Ok told) = (text : List ℕ) × GraphAnswersBy any bytes told.status text × (told.line ≡ line_of text)
-IsGraphTold any bytes (Err Memory) = Unit {0}
-IsGraphTold any bytes (Err Device) = ⊥
-IsGraphTold any bytes (Err Clash) = GraphClashesBy any bytes

@@ -1,6 +1,6 @@
 -- What the bytes of a bundle ask for, and which answer says what it gives under an executor. What a file's stages give is run instruction
 -- by instruction (`lowering`); nothing here knows a graph, a vertex or a worker.
-use Rattle.std.specs.Prelude.{◌≡◌, ◌⊎◌, ℕ, List, Bool, false, Result, Ok, Err}
+use Rattle.std.specs.Prelude.{◌≡◌, ◌⊎◌, ℕ, List, Bool, Result, Ok, Err}
 use Rattle.std.specs.FinMap.{entries, get}
 use Rattle.plain.specs.declared.fault.Fault.TheVariants.{Because}
 use Rattle.plain.specs.declared.refusal.Refusal.{Refusal}
@@ -26,7 +26,6 @@ use Rattle.lowering.specs.Outcome.{IsOutcome}
 use Rattle.bundle.specs.declared.whole.Bundle.{Bundle}
 use Rattle.bundle.specs.Reading.{ReadsBundle}
 use Rattle.bundle.specs.Answer.{built_text, failed_text, refused_text}
-use Rattle.stubs.specs.Stubbing.{HoldsBy}
 use Rattle.answering.specs.declared.status.Status.{Status}
 use Rattle.answering.specs.declared.status.Status.TheVariants.{Built, Failed, Refused}
 
@@ -49,18 +48,14 @@ FileAsks bundle asked =
     ⊎ ((is : List Instruction) × AreInstructions bundle.dockerfile is
     × TableAsks bundle (resolved (names_in bundle.images) (get bundle.args) bundle.target is) asked)
 
--- What the bytes of a bundle ask for where stubs may stand for the images that it lacks, or may not: the rows of a Dockerfile's stages, of which
--- those that the target doesn't need are left out, with the target, its configuration, and the trees that are there before the build. Or why they
--- are refused: the least fault by phase, line and number, the phases being the bundle, its ignore file, the Dockerfile's text, its lines, its
--- instructions, its stages, and the evaluation of those that are needed (own).
-abbrev pub AsksBy : Bool → List ℕ → Result Evaluated Rejection → Type 0
-AsksBy any bytes asked =
-    ((refusal : Refusal) × ReadsBundle config_in bytes (Err (Because refusal)) × (asked ≡ Err (rejection_of refusal)))
-    ⊎ ((bundle : Bundle Config) × ReadsBundle config_in bytes (Ok bundle) × HoldsBy any (λ given. FileAsks given asked) bundle)
-
--- what a build is asked for: its images are all there (own)
+-- What the bytes of a bundle ask for: the rows of a Dockerfile's stages, of which those that the target doesn't need are left out, with the
+-- target, its configuration, and the trees that are there before the build. Or why they are refused: the least fault by phase, line and
+-- number, the phases being the bundle, its ignore file, the Dockerfile's text, its lines, its instructions, its stages, and the evaluation of
+-- those that are needed (own).
 abbrev pub Asks : List ℕ → Result Evaluated Rejection → Type 0
-Asks bytes asked = AsksBy false bytes asked
+Asks bytes asked =
+    ((refusal : Refusal) × ReadsBundle config_in bytes (Err (Because refusal)) × (asked ≡ Err (rejection_of refusal)))
+    ⊎ ((bundle : Bundle Config) × ReadsBundle config_in bytes (Ok bundle) × FileAsks bundle asked)
 
 -- An answer of this status and text tells what is asked for: refused, with the refusal; built, with the target's tree and configuration,
 -- only where there is that tree; failed, with the line and the cause of the first instruction that fails, only where there is none.

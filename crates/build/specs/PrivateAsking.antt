@@ -1,5 +1,5 @@
 -- What the calls answer by which a bundle is asked, step by step: what is asked for, or the refusal; want of memory says nothing.
-use Rattle.std.specs.Prelude.{Bool, Result, Ok, Err}
+use Rattle.std.specs.Prelude.{Result, Ok, Err}
 use Rattle.plain.specs.declared.fault.Fault.{Fault}
 use Rattle.plain.specs.declared.fault.Fault.TheVariants.{Because, Memory}
 use Rattle.plain.specs.declared.refusal.Refusal.{Refusal}
@@ -8,7 +8,6 @@ use Rattle.expand.specs.declared.reason.Rejection.{Rejection}
 use Rattle.stages.specs.Table.{TableValue}
 use Rattle.imageconfig.specs.declared.config.Config.{Config}
 use Rattle.bundle.specs.declared.whole.Bundle.{Bundle}
-use Rattle.stubs.specs.Stubbing.{HoldsBy}
 use Rattle.build.specs.declared.asking.Asked.{Asked}
 use Rattle.build.specs.Meaning.{TableAsks, FileAsks}
 
@@ -22,12 +21,6 @@ abbrev pub IsFileAsked : Bundle Config → Result Asked (Fault Rejection) → Ty
 IsFileAsked bundle (Ok asked) = FileAsks bundle (Ok asked.evaluated)
 IsFileAsked bundle (Err (Because refusal)) = FileAsks bundle (Err refusal)
 IsFileAsked bundle (Err Memory) = Unit {0}
-
--- the same of the bundle, or of it with its stubs
-abbrev pub IsBundleAsked : Bool → Bundle Config → Result Asked (Fault Rejection) → Type 0
-IsBundleAsked any bundle (Ok asked) = HoldsBy any (λ given. FileAsks given (Ok asked.evaluated)) bundle
-IsBundleAsked any bundle (Err (Because refusal)) = HoldsBy any (λ given. FileAsks given (Err refusal)) bundle
-IsBundleAsked any bundle (Err Memory) = Unit {0}
 
 -- the stages of its Dockerfile are asked, or their refusal is told
 abbrev pub IsTableAsked : Bundle Config → Result TableValue Rejection → Result Asked (Fault Rejection) → Type 0

@@ -1,4 +1,4 @@
--- What is told of the graph of a file's stages; want of memory says nothing.
+-- What the calls answer by which a bundle's graph is told, step by step; want of memory says nothing.
 use Rattle.std.specs.Prelude.{◌≡◌, ℕ, List, Result, Ok, Err}
 use Rattle.expand.specs.declared.reason.Rejection.{Rejection}
 use Rattle.plans.specs.Plan.{PlanValue, IsPlan}
@@ -10,7 +10,7 @@ use Rattle.answering.specs.declared.status.BuildFault.{BuildFault}
 use Rattle.answering.specs.declared.status.BuildFault.TheVariants.{Memory, Device, Clash}
 use Rattle.answering.specs.declared.told.Told.{Told}
 use Rattle.counted.specs.Edges.{line_of}
-use Rattle.build.specs.Graph.{Shows}
+use Rattle.build.specs.Graph.{Shows, GraphAnswers, GraphClashes}
 
 -- a line shows what is asked for: it is a text that does, and LF
 abbrev pub ShowsAsked : Result Evaluated Rejection → Told → Type 0
@@ -26,3 +26,10 @@ IsFileShown made (Ok told) = ShowsAsked (Ok made) told
 IsFileShown made (Err Memory) = Unit {0}
 IsFileShown made (Err Device) = ⊥
 IsFileShown made (Err Clash) = PlanClashes made
+
+-- what is told of a bundle's bytes
+abbrev pub IsShown : List ℕ → Result Told BuildFault → Type 0
+IsShown bytes (Ok told) = (text : List ℕ) × GraphAnswers bytes told.status text × (told.line ≡ line_of text)
+IsShown bytes (Err Memory) = Unit {0}
+IsShown bytes (Err Device) = ⊥
+IsShown bytes (Err Clash) = GraphClashes bytes

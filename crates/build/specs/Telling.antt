@@ -1,5 +1,5 @@
 -- What the solution of a plan is told as.
-use Rattle.std.specs.Prelude.{◌≡◌, ℕ, Bool, false, List, Result, Ok, Err}
+use Rattle.std.specs.Prelude.{◌≡◌, ℕ, List, Result, Ok, Err}
 use Rattle.std.specs.FinMap.{entries}
 use Rattle.plain.specs.declared.fault.Fault.{Fault}
 use Rattle.plain.specs.declared.fault.Fault.TheVariants.{Because, Memory}
@@ -16,18 +16,13 @@ use Rattle.solver.specs.declared.solution.Solution.TheVariants as solution
 use Rattle.answering.specs.declared.status.Status.{Status}
 use Rattle.answering.specs.declared.status.Status.TheVariants.{Built, Failed}
 use Rattle.build.specs.declared.asking.Asked.{Asked}
-use Rattle.build.specs.Meaning.{AsksBy}
+use Rattle.build.specs.Meaning.{Asks}
 
--- what a call answers of a bundle's bytes where stubs may stand for the images that it lacks, or may not: what they ask for, or their refusal; want
--- of memory says nothing of them
-abbrev pub IsAskedBy : Bool → List ℕ → Result Asked (Fault Rejection) → Type 0
-IsAskedBy any bytes (Ok asked) = AsksBy any bytes (Ok asked.evaluated)
-IsAskedBy any bytes (Err (Because refusal)) = AsksBy any bytes (Err refusal)
-IsAskedBy any bytes (Err Memory) = Unit {0}
-
--- the same where the images are all there
+-- what a call answers of a bundle's bytes: what they ask for, or their refusal; want of memory says nothing of them
 abbrev pub IsAsked : List ℕ → Result Asked (Fault Rejection) → Type 0
-IsAsked bytes result = IsAskedBy false bytes result
+IsAsked bytes (Ok asked) = Asks bytes (Ok asked.evaluated)
+IsAsked bytes (Err (Because refusal)) = Asks bytes (Err refusal)
+IsAsked bytes (Err Memory) = Unit {0}
 
 -- a store of caches holds what a bundle of these bytes says that the caches hold
 abbrev pub HasStoreOf : List ℕ → StoreValue → Type 0

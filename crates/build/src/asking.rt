@@ -5,8 +5,8 @@ ghost use Rattle.stages.specs.Naming.{names_in};
 ghost use Rattle.stages.specs.Resolved.{resolved, Returns};
 ghost use Rattle.stages.specs.Table.{NamesKnown};
 ghost use Rattle.build.specs.Lowerable.{IsLowerable};
-ghost use Rattle.build.specs.PrivateAsking.{rejection_fault, IsBundleAsked, IsFileAsked, IsTableAsked};
-ghost use Rattle.build.specs.Telling.{IsAsked, IsAskedBy, HasStoreOf};
+ghost use Rattle.build.specs.PrivateAsking.{rejection_fault, IsFileAsked, IsTableAsked};
+ghost use Rattle.build.specs.Telling.{IsAsked, HasStoreOf};
 
 use bundle::{Bundle, read_bundle};
 use cachemounts::CacheStore;
@@ -20,7 +20,6 @@ use stages::TargetTable;
 use std::alloc::Global;
 use std::hash::RandomState;
 use std::thread::Threads;
-use stubs::stub_for;
 
 /// What a bundle asks for.
 #[derive(Drop)]
@@ -31,7 +30,7 @@ pub struct Asked {
     pub caches: CacheStore,
 }
 
-/// What the bytes of a bundle ask for. With `any_image` a stub stands for each image that the Dockerfile names and the bundle lacks.
+/// What the bytes of a bundle ask for.
 ///
 /// A refusal is reported exactly if they are refused: the least by phase, line and number, the phases being the bundle (R20), its ignore file
 /// (R19), the Dockerfile's text (R01, R18), its lines (R02, R03, R08, R18), its instructions (R04, R06 to R10, R16 to R18), its stages (R05, R11 to R13,
@@ -41,20 +40,19 @@ pub fn ask(
     keys: RandomState,
     rt: &(impl Threads + Sync),
     bytes: &[u8],
-    any_image: bool,
 ) -> Result<Asked, RejectionFault>
-    ensures asked { IsAskedBy any_image bytes.now result }
+    ensures asked { IsAsked bytes.now result }
     ensures lowerable { IfOk result (λ asked. IsLowerable asked.evaluated) }
     ensures caches { IfOk result (λ asked. asked.caches.holds ≡ []) }
     ensures store { IfOk result (λ asked. HasStoreOf bytes.now asked.caches) }
 {
     match read_bundle(alloc, keys, rt, bytes) {
-        Ok(bundle) => ask_bundle(alloc, keys, bundle, any_image),
+        Ok(bundle) => ask_file(alloc, keys, bundle),
         Err(fault) => Err(rejection_fault(fault)),
     }
 }
 
-/// The same of bytes that end here, of a bundle that has its images.
+/// The same of bytes that end here.
 pub(crate) fn ask_once(
     alloc: Global,
     keys: RandomState,
@@ -65,7 +63,7 @@ pub(crate) fn ask_once(
     ensures lowerable { IfOk result (λ asked. IsLowerable asked.evaluated) }
     ensures caches { IfOk result (λ asked. asked.caches.holds ≡ []) }
 {
-    let asked = ask(alloc, keys, rt, bytes.as_slice(), false);
+    let asked = ask(alloc, keys, rt, bytes.as_slice());
     drop(bytes);
     asked
 }
@@ -80,26 +78,7 @@ pub(crate) fn rejection_fault(fault: LineFault) -> RejectionFault
     }
 }
 
-/// What a bundle asks for, or that bundle with its stubs.
-fn ask_bundle(
-    alloc: Global,
-    keys: RandomState,
-    bundle: Bundle<BoxedConfig>,
-    any_image: bool,
-) -> Result<Asked, RejectionFault>
-    requires { bundle.caches.holds ≡ [] }
-    ensures asked { IsBundleAsked any_image bundle result }
-    ensures lowerable { IfOk result (λ asked. IsLowerable asked.evaluated) }
-    ensures store { IfOk result (λ asked. asked.caches ≡ bundle.caches) }
-    ensures caches { IfOk result (λ asked. asked.caches.holds ≡ []) }
-{
-    match stub_for(alloc, keys, bundle, any_image) {
-        Ok(given) => ask_file(alloc, keys, given),
-        Err(_) => Err(Fault::Memory),
-    }
-}
-
-/// What a bundle with all its images asks for.
+/// What a bundle asks for.
 fn ask_file(
     alloc: Global,
     keys: RandomState,

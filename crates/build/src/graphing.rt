@@ -59,7 +59,7 @@ fn graph_within<R: CountedRead, W: CountedWrite>(
     ensures taken { LosesBeginning (most + 1) (R.remaining input.old) (R.remaining input.new) }
 {
     let bytes = read_all(alloc, input, most + 1)?;
-    match show_bundle(alloc, keys, rt, bytes.as_slice(), false) {
+    match show_bundle(alloc, keys, rt, bytes.as_slice()) {
         Ok(told) => {
             write_all(output, told.line.as_str().as_bytes())?;
             Ok(told.status)

@@ -1,6 +1,5 @@
 ghost use Rattle.build.specs.Lowerable.{IsLowerable};
-ghost use Rattle.build.specs.Graph.{IsGraphTold};
-ghost use Rattle.build.specs.PrivateShowing.{IsFileShown};
+ghost use Rattle.build.specs.PrivateShowing.{IsFileShown, IsShown};
 
 use crate::asking::{Asked, ask};
 use crate::{BuildFault, Status};
@@ -14,21 +13,16 @@ use std::alloc::Global;
 use std::hash::RandomState;
 use std::thread::Threads;
 
-/// What is shown of a bundle's bytes: the graph of what they ask for, as a definition, or their refusal. With `any_image` a stub stands for each
-/// image that the Dockerfile names and the bundle lacks.
-///
-/// `Built` if it is a graph, `Refused` if it is a refusal, and never `Failed`, since nothing is run. `Clash` only where two different operations of the
-/// drawing have one address, and never `Device`.
-pub fn show_bundle(
+/// What is shown of a bundle's bytes: the graph of what they ask for, or their refusal.
+pub(crate) fn show_bundle(
     alloc: Global,
     keys: RandomState,
     rt: &(impl Threads + Sync),
     bytes: &[u8],
-    any_image: bool,
 ) -> Result<Told, BuildFault>
-    ensures { IsGraphTold any_image bytes.now result }
+    ensures { IsShown bytes.now result }
 {
-    match ask(alloc, keys, rt, bytes, any_image) {
+    match ask(alloc, keys, rt, bytes) {
         Ok(asked) => {
             let Asked {
                 evaluated,

@@ -22,12 +22,7 @@ use Rattle.bundle.specs.Reading.{ReadsBundle}
 use Rattle.bundle.specs.declared.whole.Bundle.{Bundle}
 use Rattle.checks.specs.declared.checking.Findings.{Findings}
 use Rattle.evaluation.specs.Faults.{AreTableFaults}
-use Rattle.stubs.specs.Naming.{AreMissing}
-use Rattle.stubs.specs.Stubbing.{HoldsBy}
-use Rattle.checks.specs.Checks.{AreStageFaults, AreFileFaults, AreBundleFaults, AreFaultsBy}
-use Rattle.checks.specs.Lacked.{AreLacked}
-use Rattle.checks.specs.Warned.{AreWarningsIn}
-use Rattle.warnings.specs.Warnings.{AreWarningsOf}
+use Rattle.checks.specs.Checks.{AreStageFaults, AreFileFaults, AreFaultsOf}
 
 -- the faults of a bundle's Dockerfile, of its stages, and of those that are in a table
 abbrev pub OfFile : Bundle Config → List Rejection → Type 0
@@ -40,36 +35,16 @@ abbrev pub OfTable : Bundle Config → TableValue → List Rejection → Type 0
 OfTable bundle table faults = AreTableFaults bundle.images (get bundle.args) table faults
 
 -- the bytes are refused before their Dockerfile is read
-pub bundle_refused : (any : Bool) (bytes : List ℕ) (refusal : Refusal) (result : Result Findings Memory) → ReadsBundle config_in bytes (Err (Because refusal))
-    → IfOk result (λ found. found.faults ≡ rejection_of refusal ∷ []) → IfOk result (λ found. AreFaultsBy any bytes found.faults)
-bundle_refused any bytes refusal (Ok found) told is = inl (refusal, told, is)
-bundle_refused any bytes refusal (Err memory) told is = tt
-
-pub refused_lacked : (bytes : List ℕ) (refusal : Refusal) (result : Result Findings Memory) → ReadsBundle config_in bytes (Err (Because refusal))
-    → IfOk result (λ found. found.missing ≡ []) → IfOk result (λ found. AreLacked bytes found.missing)
-refused_lacked bytes refusal (Ok found) told none = inl (refusal, told, none)
-refused_lacked bytes refusal (Err memory) told none = tt
+pub bundle_refused : (bytes : List ℕ) (refusal : Refusal) (result : Result Findings Memory) → ReadsBundle config_in bytes (Err (Because refusal))
+    → IfOk result (λ found. found.faults ≡ rejection_of refusal ∷ []) → IfOk result (λ found. AreFaultsOf bytes found.faults)
+bundle_refused bytes refusal (Ok found) told is = inl (refusal, told, is)
+bundle_refused bytes refusal (Err memory) told is = tt
 
 -- they are a bundle
-pub bundle_checked : (any : Bool) (bytes : List ℕ) (bundle : Bundle Config) (result : Result Findings Memory) → ReadsBundle config_in bytes (Ok bundle)
-    → IfOk result (λ found. HoldsBy any (λ given. AreBundleFaults given found.faults) bundle) → IfOk result (λ found. AreFaultsBy any bytes found.faults)
-bundle_checked any bytes bundle (Ok found) read are = inr (bundle, read, are)
-bundle_checked any bytes bundle (Err memory) read are = tt
-
-pub bundle_lacked : (bytes : List ℕ) (bundle : Bundle Config) (result : Result Findings Memory) → ReadsBundle config_in bytes (Ok bundle)
-    → IfOk result (λ found. AreMissing bundle found.missing) → IfOk result (λ found. AreLacked bytes found.missing)
-bundle_lacked bytes bundle (Ok found) read are = inr (bundle, read, are)
-bundle_lacked bytes bundle (Err memory) read are = tt
-
-pub bundle_warned : (bytes : List ℕ) (bundle : Bundle Config) (result : Result Findings Memory) → ReadsBundle config_in bytes (Ok bundle)
-    → IfOk result (λ found. AreWarningsOf (get bundle.args) bundle.dockerfile found.warnings) → IfOk result (λ found. AreWarningsIn bytes found.warnings)
-bundle_warned bytes bundle (Ok found) read are = inr (bundle, read, are)
-bundle_warned bytes bundle (Err memory) read are = tt
-
-pub refused_warned : (bytes : List ℕ) (refusal : Refusal) (result : Result Findings Memory) → ReadsBundle config_in bytes (Err (Because refusal))
-    → IfOk result (λ found. found.warnings ≡ []) → IfOk result (λ found. AreWarningsIn bytes found.warnings)
-refused_warned bytes refusal (Ok found) told none = inl (refusal, told, none)
-refused_warned bytes refusal (Err memory) told none = tt
+pub bundle_checked : (bytes : List ℕ) (bundle : Bundle Config) (result : Result Findings Memory) → ReadsBundle config_in bytes (Ok bundle)
+    → IfOk result (λ found. OfFile bundle found.faults) → IfOk result (λ found. AreFaultsOf bytes found.faults)
+bundle_checked bytes bundle (Ok found) read are = inr (bundle, read, are)
+bundle_checked bytes bundle (Err memory) read are = tt
 
 -- the Dockerfile's text has faults
 text_checked : (text : List ℕ) (fault : Fault (List Refusal)) (refusals : List Refusal) → fault ≡ Because refusals → IsChecked text (Err fault) → IsChecked text (Err (Because refusals))

@@ -16,9 +16,7 @@ use Rattle.expand.specs.declared.reason.Reason.TheVariants.{Coded, Required}
 use Rattle.expand.specs.declared.reason.Rejection.{Rejection}
 use Rattle.flaws.specs.Looks.{keys_of}
 use Rattle.flaws.specs.declared.flaw.Flaw.{Flaw}
-use Rattle.stages.specs.declared.image_name.ImageName.{ImageName}
 use Rattle.checks.specs.Images.{names_of, names_in, bytes_names}
-use Rattle.checks.specs.Lacked.{asked_on}
 use Rattle.meant.specs.Told.{message_by}
 use Rattle.sentences.specs.declared.message.Message.{Message}
 use Rattle.checks.specs.Mark.{marked_by, spot_by}
@@ -82,20 +80,19 @@ no_text_names bytes none = text-or-none bytes (is_utf8 bytes) refl none
 
 -- what is shown of a fault that doesn't need them is the same, whatever the names
 
-message-same : (target : Option (List ℕ)) (images others : List (List ℕ)) (asked : Option (List ℕ)) (lines own : List (List ℕ)) (reason : Reason) (number : ℕ) (word : Option (List ℕ))
+message-same : (target : Option (List ℕ)) (images others lines own : List (List ℕ)) (reason : Reason) (number : ℕ) (word : Option (List ℕ))
     → needs_images reason ≡ false
-    → message_by target images asked lines own reason number word ≡ message_by target others asked lines own reason number word
-message-same target images others asked lines own (Coded R12) number word h = absurd (true≢false h)
-message-same target images others asked lines own (Coded code) number word h = refl
-message-same target images others asked lines own (Required text) number word h = refl
+    → message_by target images None lines own reason number word ≡ message_by target others None lines own reason number word
+message-same target images others lines own (Coded R12) number word h = absurd (true≢false h)
+message-same target images others lines own (Coded code) number word h = refl
+message-same target images others lines own (Required text) number word h = refl
 
-shown-same : (file : List ℕ) (form : Form) (target : Option (List ℕ)) (images others : List (List ℕ)) (asked : Option (List ℕ)) (lines : List (List ℕ)) (fault : Rejection)
-    → needs_images fault.reason ≡ false
-    → shown_fault file form target images asked lines fault ≡ shown_fault file form target others asked lines fault
-shown-same file form target images others asked lines fault h =
+shown-same : (file : List ℕ) (form : Form) (target : Option (List ℕ)) (images others lines : List (List ℕ)) (fault : Rejection) → needs_images fault.reason ≡ false
+    → shown_fault file form target images lines fault ≡ shown_fault file form target others lines fault
+shown-same file form target images others lines fault h =
     let own = own_in fault.reason lines fault.line in
     ap (λ (message : Message). shown_told file form fault own message (marked_by fault.reason (spot_by fault.reason lines own fault.line)))
-    (message-same target images others asked lines own fault.reason fault.line (word_in (spot_by fault.reason lines own fault.line)) h)
+    (message-same target images others lines own fault.reason fault.line (word_in (spot_by fault.reason lines own fault.line)) h)
 
 neither : (a b : Bool) → a || b ≡ false → (a ≡ false) × (b ≡ false)
 neither true b h = absurd (true≢false h)
@@ -103,21 +100,19 @@ neither false b h = (refl, h)
 
 pub alike_without : (images others : List (List ℕ)) (faults : List Rejection) → list_any (λ fault. needs_images fault.reason) faults ≡ false
     → AreShownAlike images others faults
-alike_without images others [] h file form target missing lines = refl
-alike_without images others (fault ∷ faults) h file form target missing lines =
+alike_without images others [] h file form target lines = refl
+alike_without images others (fault ∷ faults) h file form target lines =
     let both = neither (needs_images fault.reason) (list_any (λ (it : Rejection). needs_images it.reason) faults) h in
-    λ i. shown-same file form target images others (asked_on missing fault.line) lines fault both.0 i
-    ++ alike_without images others faults both.1 file form target missing lines i
+    λ i. shown-same file form target images others lines fault both.0 i ++ alike_without images others faults both.1 file form target lines i
 
 -- and with all of them it is what it is
 pub alike : (result : Result (List (List ℕ)) Memory) (names : List (List ℕ)) (faults : List Rejection) → IfOk result (λ images. images ≡ names)
     → IfOk result (λ images. AreShownAlike images names faults)
-alike (Ok images) names faults e = λ file form target missing lines. ap (λ (it : List (List ℕ)). shown_faults file form target it missing lines faults) e
+alike (Ok images) names faults e = λ file form target lines. ap (λ (it : List (List ℕ)). shown_faults file form target it lines faults) e
 alike (Err memory) names faults e = tt
 
 -- so is what is shown of a bundle
-pub check-alike : (file : List ℕ) (form : Form) (flaw : Option Flaw) (target : Option (List ℕ)) (images others : List (List ℕ)) (missing : List ImageName) (lines : List (List ℕ))
-    (faults : List Rejection)
-    → AreShownAlike images others faults → shown_check file form flaw target images missing lines faults ≡ shown_check file form flaw target others missing lines faults
-check-alike file form None target images others missing lines faults alike = alike file form target missing lines
-check-alike file form (Some flaw) target images others missing lines faults alike = refl
+pub check-alike : (file : List ℕ) (form : Form) (flaw : Option Flaw) (target : Option (List ℕ)) (images others lines : List (List ℕ)) (faults : List Rejection)
+    → AreShownAlike images others faults → shown_check file form flaw target images lines faults ≡ shown_check file form flaw target others lines faults
+check-alike file form None target images others lines faults alike = alike file form target lines
+check-alike file form (Some flaw) target images others lines faults alike = refl

@@ -30,15 +30,7 @@ use Rattle.bundle.specs.Parts.{parts_of}
 use Rattle.bundle.specs.Reading.{ignore_bytes, told_line, IsBundle, Completes, ReadsBundle}
 use Rattle.bundle.specs.declared.parts.Parts.{Parts}
 use Rattle.bundle.specs.declared.whole.Bundle.{Bundle}
-use Rattle.stages.specs.declared.image_name.ImageName.{ImageName}
-use Rattle.stubs.specs.Naming.{AreMissing}
-use Rattle.stubs.specs.Stubbing.{IsStubbed, HoldsBy}
-use Rattle.checks.specs.Checks.{AreStageFaults, AreFileFaults, AreBundleFaults, AreFaultsBy}
-use Rattle.checks.specs.Lacked.{AreLacked}
-use Rattle.checks.specs.Warned.{AreWarningsIn}
-use Rattle.warnings.specs.Warnings.{AreWarningsOf}
-use Rattle.warnings.specs.declared.warning.Warning.{Warning}
-use Rattle.checks.proofs.GivenFacts.{IsAlike, alike_parts, missing_moved, given_moved}
+use Rattle.checks.specs.Checks.{AreStageFaults, AreFileFaults, AreFaultsOf}
 
 -- the laws of the crates below, as premises: what each phase has to do with its faults
 pub record TextLaws : Type 0 where
@@ -106,13 +98,25 @@ apart bytes bundle refusal these (inr those) =
     let bad : Completes these.0 (Err (Because refusal)) = subst (λ p. Completes p (Err (Because refusal))) parts those.1.1 in
     lines_or_number (ignore_of (ignore_bytes these.0.files.context)) these.1.1.0 bad.0 these.1.1.1.0 bad.1.0
 
--- bundles of the same bytes are alike
+-- all that a bundle's faults go by is what the bundle's parts say, so not its filtered context
 
-alike_read : (bytes : List ℕ) (a b : Bundle Config) → ReadsBundle config_in bytes (Ok a) → ReadsBundle config_in bytes (Ok b) → IsAlike a b
-alike_read bytes a b these those =
+abbrev AreBundlesFaults : List Rejection → Bundle Config → Type 0
+AreBundlesFaults faults bundle = AreFileFaults bundle.images (get bundle.args) bundle.target bundle.dockerfile faults
+
+faults_within : (parts : Parts Config) (lines others : List Line) (a b : Bundle Config) (faults : List Rejection) → IsBundle parts lines a → IsBundle parts others b
+    → AreBundlesFaults faults a → AreBundlesFaults faults b
+faults_within parts lines others a b faults these those are =
+    subst (λ text. AreFileFaults b.images (get b.args) b.target text faults) (these.dockerfile ∙ sym those.dockerfile)
+    (subst (λ target. AreFileFaults b.images (get b.args) target a.dockerfile faults) (these.target ∙ sym those.target)
+    (subst (λ args. AreFileFaults b.images (get args) a.target a.dockerfile faults) (these.args ∙ sym those.args)
+    (subst (λ images. AreFileFaults images (get a.args) a.target a.dockerfile faults) (these.images ∙ sym those.images) are)))
+
+faults_alike : (bytes : List ℕ) (a b : Bundle Config) (faults : List Rejection) → ReadsBundle config_in bytes (Ok a) → ReadsBundle config_in bytes (Ok b)
+    → AreBundlesFaults faults a → AreBundlesFaults faults b
+faults_alike bytes a b faults these those are =
     let parts : those.0 ≡ these.0 = same_some (parts_of config_in bytes) those.0 these.0 those.1.0 these.1.0 in
     let other : Completes these.0 (Ok b) = subst (λ p. Completes p (Ok b)) parts those.1.1 in
-    alike_parts these.0 these.1.1.0 other.0 a b these.1.1.1.1 other.1.1
+    faults_within these.0 these.1.1.0 other.0 a b faults these.1.1.1.1 other.1.1 are
 
 -- there is one list
 
@@ -150,56 +154,14 @@ file_one texts unique names images args target text a b (inr these) (inr those) 
     let same = unique.instructions text those.0 these.0 those.1 these.1 in
     stage_one names images args target these.0 a b these.2 (subst (λ (is : List Instruction). AreStageFaults images args target is b) same those.2)
 
--- what is known of stubs: a bundle has one bundle with its stubs, and lacks one list of images
-pub record StubLaws : Type 0 where
-  pub exists : (bundle : Bundle Config) → (stubbed : Bundle Config) × IsStubbed bundle stubbed
-  pub unique : (bundle one other : Bundle Config) → IsStubbed bundle one → IsStubbed bundle other → one ≡ other
-
-given_one : TextLaws → OneText → NameLaws → StubLaws → (any : Bool) (bundle : Bundle Config) (a b : List Rejection)
-    → HoldsBy any (λ given. AreBundleFaults given a) bundle → HoldsBy any (λ given. AreBundleFaults given b) bundle → a ≡ b
-given_one texts unique names stubs false bundle a b these those =
-    file_one texts unique names bundle.images (get bundle.args) bundle.target bundle.dockerfile a b these those
-given_one texts unique names stubs true bundle a b these those =
-    let given = these.0 in
-    let same = stubs.unique bundle those.0 given those.1 these.1 in
-    file_one texts unique names given.images (get given.args) given.target given.dockerfile a b these.2 (subst (λ it. AreBundleFaults it b) same those.2)
-
-pub one_list : TextLaws → OneText → NameLaws → StubLaws → (any : Bool) (bytes : List ℕ) (a b : List Rejection) → AreFaultsBy any bytes a → AreFaultsBy any bytes b → a ≡ b
-one_list texts unique names stubs any bytes a b (inl these) (inl those) =
+pub one_list : TextLaws → OneText → NameLaws → (bytes : List ℕ) (a b : List Rejection) → AreFaultsOf bytes a → AreFaultsOf bytes b → a ≡ b
+one_list texts unique names bytes a b (inl these) (inl those) =
     these.2 ∙ (ap (λ r. rejection_of r ∷ []) (refusals bytes these.0 those.0 these.1 those.1) ∙ sym those.2)
-one_list texts unique names stubs any bytes a b (inl these) (inr those) = absurd (apart bytes those.0 these.0 those.1 these.1)
-one_list texts unique names stubs any bytes a b (inr these) (inl those) = absurd (apart bytes these.0 those.0 these.1 those.1)
-one_list texts unique names stubs any bytes a b (inr these) (inr those) =
-    given_one texts unique names stubs any these.0 a b these.2
-    (given_moved any those.0 these.0 b (alike_read bytes those.0 these.0 those.1 these.1) those.2)
-
--- the bytes of a bundle lack one list of images
-
-abbrev pub OneMissing : Type 0
-OneMissing = (bundle : Bundle Config) (missing others : List ImageName) → AreMissing bundle missing → AreMissing bundle others → missing ≡ others
-
-pub one_lacked : OneMissing → (bytes : List ℕ) (missing others : List ImageName) → AreLacked bytes missing → AreLacked bytes others → missing ≡ others
-one_lacked one bytes missing others (inl these) (inl those) = these.2 ∙ sym those.2
-one_lacked one bytes missing others (inl these) (inr those) = absurd (apart bytes those.0 these.0 those.1 these.1)
-one_lacked one bytes missing others (inr these) (inl those) = absurd (apart bytes these.0 those.0 these.1 those.1)
-one_lacked one bytes missing others (inr these) (inr those) =
-    one these.0 missing others these.2 (missing_moved those.0 these.0 others (alike_read bytes those.0 these.0 those.1 these.1) those.2)
-
--- the warnings of its Dockerfile
-
-abbrev pub OneWarned : Type 0
-OneWarned = (args : Values) (text : List ℕ) (found others : List Warning) → AreWarningsOf args text found → AreWarningsOf args text others → found ≡ others
-
-warned_moved : (a b : Bundle Config) (found : List Warning) → IsAlike a b → AreWarningsOf (get a.args) a.dockerfile found → AreWarningsOf (get b.args) b.dockerfile found
-warned_moved a b found same are =
-    subst (λ text. AreWarningsOf (get b.args) text found) same.dockerfile (subst (λ args. AreWarningsOf (get args) a.dockerfile found) same.args are)
-
-pub one_warned : OneWarned → (bytes : List ℕ) (found others : List Warning) → AreWarningsIn bytes found → AreWarningsIn bytes others → found ≡ others
-one_warned one bytes found others (inl these) (inl those) = these.2 ∙ sym those.2
-one_warned one bytes found others (inl these) (inr those) = absurd (apart bytes those.0 these.0 those.1 these.1)
-one_warned one bytes found others (inr these) (inl those) = absurd (apart bytes these.0 those.0 these.1 those.1)
-one_warned one bytes found others (inr these) (inr those) =
-    one (get these.0.args) these.0.dockerfile found others these.2 (warned_moved those.0 these.0 others (alike_read bytes those.0 these.0 those.1 these.1) those.2)
+one_list texts unique names bytes a b (inl these) (inr those) = absurd (apart bytes those.0 these.0 those.1 these.1)
+one_list texts unique names bytes a b (inr these) (inl those) = absurd (apart bytes these.0 those.0 these.1 those.1)
+one_list texts unique names bytes a b (inr these) (inr those) =
+    file_one texts unique names these.0.images (get these.0.args) these.0.target these.0.dockerfile a b these.2
+    (faults_alike bytes those.0 these.0 b those.1 these.1 those.2)
 
 -- and there is a list
 
@@ -234,34 +196,12 @@ file_some texts names stages images args context target text (refusal ∷ more) 
 abbrev pub AreRead : Type 0
 AreRead = (bytes : List ℕ) → ((bundle : Bundle Config) × ReadsBundle config_in bytes (Ok bundle)) ⊎ ((refusal : Refusal) × ReadsBundle config_in bytes (Err (Because refusal)))
 
-given_some : ((text : List ℕ) → (faults : List Refusal) × AreFaults text faults) → TextLaws → NameLaws → StageLaws → StubLaws
-    → (any : Bool) (bundle : Bundle Config) → (faults : List Rejection) × HoldsBy any (λ given. AreBundleFaults given faults) bundle
-given_some checked texts names stages stubs false bundle =
-    let spelled = checked bundle.dockerfile in
-    file_some texts names stages bundle.images (get bundle.args) bundle.context bundle.target bundle.dockerfile spelled.0 spelled.1
-given_some checked texts names stages stubs true bundle =
-    let stubbed = stubs.exists bundle in
-    let given = stubbed.0 in
-    let spelled = checked given.dockerfile in
-    let found = file_some texts names stages given.images (get given.args) given.context given.target given.dockerfile spelled.0 spelled.1 in
-    (found.0, (given, stubbed.1, found.1))
-
-pub some_list : AreRead → ((text : List ℕ) → (faults : List Refusal) × AreFaults text faults) → TextLaws → NameLaws → StageLaws → StubLaws
-    → (any : Bool) (bytes : List ℕ) → (faults : List Rejection) × AreFaultsBy any bytes faults
-some_list read checked texts names stages stubs any bytes = elim (read bytes) [
-  | inl (bundle, is) ↦ let found = given_some checked texts names stages stubs any bundle in (found.0, inr (bundle, is, found.1))
+pub some_list : AreRead → ((text : List ℕ) → (faults : List Refusal) × AreFaults text faults) → TextLaws → NameLaws → StageLaws
+    → (bytes : List ℕ) → (faults : List Rejection) × AreFaultsOf bytes faults
+some_list read checked texts names stages bytes = elim (read bytes) [
+  | inl (bundle, is) ↦
+      let spelled = checked bundle.dockerfile in
+      let found = file_some texts names stages bundle.images (get bundle.args) bundle.context bundle.target bundle.dockerfile spelled.0 spelled.1 in
+      (found.0, inr (bundle, is, found.1))
   | inr (refusal, is) ↦ (rejection_of refusal ∷ [], inl (refusal, is, refl))
-]
-
-pub some_lacked : AreRead → ((bundle : Bundle Config) → (missing : List ImageName) × AreMissing bundle missing) → (bytes : List ℕ) → (missing : List ImageName) × AreLacked bytes missing
-some_lacked read lacks bytes = elim (read bytes) [
-  | inl (bundle, is) ↦ let found = lacks bundle in (found.0, inr (bundle, is, found.1))
-  | inr (refusal, is) ↦ ([], inl (refusal, is, refl))
-]
-
-pub some_warned : AreRead → ((args : Values) (text : List ℕ) → (found : List Warning) × AreWarningsOf args text found) → (bytes : List ℕ)
-    → (found : List Warning) × AreWarningsIn bytes found
-some_warned read warns bytes = elim (read bytes) [
-  | inl (bundle, is) ↦ let found = warns (get bundle.args) bundle.dockerfile in (found.0, inr (bundle, is, found.1))
-  | inr (refusal, is) ↦ ([], inl (refusal, is, refl))
 ]

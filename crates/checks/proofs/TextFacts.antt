@@ -1,5 +1,5 @@
 -- The text that a bundle's faults are in.
-use Rattle.std.proofs.Common.{◌≡◌, ◌++◌, ◌==◌, ◌∙◌, inl, inr, ℕ, Bool, List, [], length, Option, Some, None, Result, Ok, Err, refl, sym, ap, subst, IfOk}
+use Rattle.std.proofs.Common.{◌≡◌, ◌==◌, ◌∙◌, inl, inr, ℕ, List, [], length, Option, Some, None, Result, Ok, Err, refl, sym, ap, subst, IfOk}
 use Rattle.std.specs.Prelude.{unwrap_or}
 use Rattle.plain.specs.declared.fault.Fault.TheVariants.{Because}
 use Rattle.plain.specs.declared.memory.Memory.{Memory}
@@ -16,15 +16,11 @@ use Rattle.bundle.specs.declared.parts.Parts.{Parts}
 use Rattle.bundle.specs.declared.whole.Bundle.{Bundle}
 use Rattle.flaws.specs.Flaws.{flaw_in}
 use Rattle.flaws.specs.declared.flaw.Flaw.{Flaw}
-use Rattle.stages.specs.declared.image_name.ImageName.{ImageName}
-use Rattle.checks.specs.Checks.{AreFaultsBy}
-use Rattle.checks.specs.Checked.{faulty_part, faulty_text_in, faulty_text, target_part, target_in, asked_target, IsCheckBy}
+use Rattle.checks.specs.Checks.{AreFaultsOf}
+use Rattle.checks.specs.Checked.{faulty_part, faulty_text_in, faulty_text, target_part, target_in, asked_target, IsCheckOf}
 use Rattle.checks.specs.Images.{image_names}
-use Rattle.checks.specs.Lacked.{AreLacked, noted_by}
 use Rattle.checks.specs.PrivateImages.{AreShownAlike}
-use Rattle.checks.specs.Shown.{readable_lines}
-use Rattle.checks.specs.Warned.{AreWarningsIn, shown_all, shown_warnings}
-use Rattle.warnings.specs.declared.warning.Warning.{Warning}
+use Rattle.checks.specs.Shown.{readable_lines, shown_check}
 use Rattle.checks.specs.declared.checked.Checked.{Checked}
 use Rattle.checks.specs.declared.checking.Findings.{Findings}
 use Rattle.checks.specs.declared.form.Form.{Form}
@@ -83,77 +79,45 @@ found_flaw (Ok found) flaw none is = is ∙ sym none
 found_flaw (Err memory) flaw none is = tt
 
 -- what is found and shown is what a check gives
-pub checked : (any : Bool) (file bytes : List ℕ) (form : Form) (found : Findings) (images : List (List ℕ)) (made : Checked) → AreFaultsBy any bytes found.faults
-    → AreLacked bytes found.missing → AreWarningsIn bytes found.warnings
+pub checked : (file bytes : List ℕ) (form : Form) (found : Findings) (images : List (List ℕ)) (made : Checked) → AreFaultsOf bytes found.faults
     → found.text ≡ faulty_text bytes → found.target ≡ asked_target bytes → found.flaw ≡ flaw_in config_in bytes → AreShownAlike images (image_names bytes) found.faults
-    → made.text ≡ shown_all file form found.flaw found.target images found.missing (readable_lines found.text) found.faults found.warnings
-    → made.is_sound ≡ (length found.faults == 0)
-    → made.note ≡ noted_by any found.missing → IsCheckBy any file bytes form made
-checked any file bytes form found images made are lacked warned text target flaw alike shown sound note = record {
+    → made.text ≡ shown_check file form found.flaw found.target images (readable_lines found.text) found.faults → made.is_sound ≡ (length found.faults == 0)
+    → IsCheckOf file bytes form made
+checked file bytes form found images made are text target flaw alike shown sound = record {
   faults = found.faults;
   are = are;
-  missing = found.missing;
-  lacked = lacked;
-  warnings = found.warnings;
-  warned = warned;
-  text = shown
-      ∙ (ap (λ (told : List ℕ). told ++ shown_warnings file form (readable_lines found.text) found.warnings)
-      (check-alike file form found.flaw found.target images (image_names bytes) found.missing (readable_lines found.text) found.faults alike)
-      ∙ (λ i. shown_all file form (flaw i) (target i) (image_names bytes) found.missing (readable_lines (text i)) found.faults found.warnings));
+  text = shown ∙ check-alike file form found.flaw found.target images (image_names bytes) (readable_lines found.text) found.faults alike
+      ∙ (λ i. shown_check file form (flaw i) (target i) (image_names bytes) (readable_lines (text i)) found.faults);
   is_sound = sound;
-  note = note;
 }
 
 -- a check gives one thing
 abbrev pub HaveFaults : Type 0
-HaveFaults = (any : Bool) (bytes : List ℕ) → (faults : List Rejection) × AreFaultsBy any bytes faults
+HaveFaults = (bytes : List ℕ) → (faults : List Rejection) × AreFaultsOf bytes faults
 
 abbrev pub HaveOneList : Type 0
-HaveOneList = (any : Bool) (bytes : List ℕ) (faults others : List Rejection) → AreFaultsBy any bytes faults → AreFaultsBy any bytes others → faults ≡ others
+HaveOneList = (bytes : List ℕ) (faults others : List Rejection) → AreFaultsOf bytes faults → AreFaultsOf bytes others → faults ≡ others
 
-abbrev pub LackImages : Type 0
-LackImages = (bytes : List ℕ) → (missing : List ImageName) × AreLacked bytes missing
-
-abbrev pub LackOneList : Type 0
-LackOneList = (bytes : List ℕ) (missing others : List ImageName) → AreLacked bytes missing → AreLacked bytes others → missing ≡ others
-
-abbrev pub HaveWarnings : Type 0
-HaveWarnings = (bytes : List ℕ) → (found : List Warning) × AreWarningsIn bytes found
-
-abbrev pub HaveOneWarned : Type 0
-HaveOneWarned = (bytes : List ℕ) (found others : List Warning) → AreWarningsIn bytes found → AreWarningsIn bytes others → found ≡ others
-
--- what is shown of these faults and warnings, where these images are missing
-abbrev text_by : List ℕ → List ℕ → Form → List ImageName → List Rejection → List Warning → List ℕ
-text_by file bytes form missing faults warnings =
-    shown_all file form (flaw_in config_in bytes) (asked_target bytes) (image_names bytes) missing (readable_lines (faulty_text bytes)) faults warnings
-
-pub some_check : HaveFaults → LackImages → HaveWarnings → (any : Bool) (file bytes : List ℕ) (form : Form) → (made : Checked) × IsCheckBy any file bytes form made
-some_check some lack warn any file bytes form =
-    let found = some any bytes in
-    let missing = lack bytes in
-    let warned = warn bytes in (
-      record { text = text_by file bytes form missing.0 found.0 warned.0; is_sound = length found.0 == 0; note = noted_by any missing.0 },
-      record { faults = found.0; are = found.1; missing = missing.0; lacked = missing.1; warnings = warned.0; warned = warned.1; text = refl; is_sound = refl; note = refl },
+pub some_check : HaveFaults → (file bytes : List ℕ) (form : Form) → (made : Checked) × IsCheckOf file bytes form made
+some_check some file bytes form =
+    let found = some bytes in (
+      record { text = shown_check file form (flaw_in config_in bytes) (asked_target bytes) (image_names bytes) (readable_lines (faulty_text bytes)) found.0; is_sound = length found.0 == 0 },
+      record { faults = found.0; are = found.1; text = refl; is_sound = refl },
     )
 
-same_checked : (one other : Checked) → one.text ≡ other.text → one.is_sound ≡ other.is_sound → one.note ≡ other.note → one ≡ other
-same_checked one other text sound note = λ i. record { text = text i; is_sound = sound i; note = note i }
+same_checked : (one other : Checked) → one.text ≡ other.text → one.is_sound ≡ other.is_sound → one ≡ other
+same_checked one other text sound = λ i. record { text = text i; is_sound = sound i }
 
-pub one_sound : HaveOneList → (any : Bool) (file called bytes : List ℕ) (form another : Form) (one other : Checked) → IsCheckBy any file bytes form one
-    → IsCheckBy any called bytes another other
+pub one_sound : HaveOneList → (file called bytes : List ℕ) (form another : Form) (one other : Checked) → IsCheckOf file bytes form one
+    → IsCheckOf called bytes another other
     → one.is_sound ≡ other.is_sound
-one_sound unique any file called bytes form another one other these those =
-    let same = unique any bytes these.faults those.faults these.are those.are in
+one_sound unique file called bytes form another one other these those =
+    let same = unique bytes these.faults those.faults these.are those.are in
     these.is_sound ∙ ap (λ (faults : List Rejection). length faults == 0) same ∙ sym those.is_sound
 
-pub one_check : HaveOneList → LackOneList → HaveOneWarned → (any : Bool) (file bytes : List ℕ) (form : Form) (one other : Checked) → IsCheckBy any file bytes form one
-    → IsCheckBy any file bytes form other → one ≡ other
-one_check unique lack warn any file bytes form one other these those =
-    let same = unique any bytes these.faults those.faults these.are those.are in
-    let lacked = lack bytes these.missing those.missing these.lacked those.lacked in
-    let warned = warn bytes these.warnings those.warnings these.warned those.warned in
+pub one_check : HaveOneList → (file bytes : List ℕ) (form : Form) (one other : Checked) → IsCheckOf file bytes form one → IsCheckOf file bytes form other → one ≡ other
+one_check unique file bytes form one other these those =
+    let same = unique bytes these.faults those.faults these.are those.are in
     same_checked one other
-    (these.text ∙ (λ i. text_by file bytes form (lacked i) (same i) (warned i)) ∙ sym those.text)
-    (one_sound unique any file file bytes form form one other these those)
-    (these.note ∙ ap (noted_by any) lacked ∙ sym those.note)
+    (these.text ∙ ap (shown_check file form (flaw_in config_in bytes) (asked_target bytes) (image_names bytes) (readable_lines (faulty_text bytes))) same ∙ sym those.text)
+    (one_sound unique file file bytes form form one other these those)

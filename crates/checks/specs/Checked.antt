@@ -1,5 +1,5 @@
 -- What checking a bundle gives: what is shown of all its faults (own).
-use Rattle.std.specs.Prelude.{◌≡◌, ◌==◌, ℕ, Bool, false, List, [], Option, Some, None, Result, Ok, Err, length}
+use Rattle.std.specs.Prelude.{◌≡◌, ◌==◌, ℕ, List, [], Option, Some, None, Result, Ok, Err, length}
 use Rattle.expand.specs.declared.reason.Rejection.{Rejection}
 use Rattle.ignorefile.specs.File.{ignore_of}
 use Rattle.ignorefile.specs.declared.line.Line.{Line}
@@ -9,13 +9,9 @@ use Rattle.bundle.specs.Parts.{parts_of}
 use Rattle.bundle.specs.Reading.{ignore_bytes}
 use Rattle.bundle.specs.declared.parts.Parts.{Parts}
 use Rattle.flaws.specs.Flaws.{flaw_in}
-use Rattle.stages.specs.declared.image_name.ImageName.{ImageName}
-use Rattle.checks.specs.Checks.{AreFaultsBy}
+use Rattle.checks.specs.Checks.{AreFaultsOf}
 use Rattle.checks.specs.Images.{image_names}
-use Rattle.checks.specs.Lacked.{AreLacked, noted_by}
-use Rattle.warnings.specs.declared.warning.Warning.{Warning}
-use Rattle.checks.specs.Shown.{readable_lines}
-use Rattle.checks.specs.Warned.{AreWarningsIn, shown_all}
+use Rattle.checks.specs.Shown.{readable_lines, shown_check}
 use Rattle.checks.specs.declared.checked.Checked.{Checked}
 use Rattle.checks.specs.declared.form.Form.{Form}
 
@@ -46,19 +42,10 @@ target_in (Some parts) = target_part parts (ignore_of (ignore_bytes parts.files.
 abbrev pub asked_target : List ℕ → Option (List ℕ)
 asked_target bytes = target_in (parts_of config_in bytes)
 
--- what checking bytes gives, whose Dockerfile is called so, with any image or with those alone that are given: all their faults in a form, with the lines
--- or the place that they are about, and after them the warnings of the Dockerfile; whether there is no fault, and what is noted of images that aren't given
-pub record IsCheckBy (any : Bool) (file bytes : List ℕ) (form : Form) (checked : Checked) : Type 0 where
+-- what checking bytes gives, whose Dockerfile is called so: all their faults in a form, with the lines or the place that they are about, and whether there is
+-- none
+pub record IsCheckOf (file bytes : List ℕ) (form : Form) (checked : Checked) : Type 0 where
   pub faults : List Rejection
-  pub are : AreFaultsBy any bytes faults
-  pub missing : List ImageName
-  pub lacked : AreLacked bytes missing
-  pub warnings : List Warning
-  pub warned : AreWarningsIn bytes warnings
-  pub text : checked.text ≡ shown_all file form (flaw_in config_in bytes) (asked_target bytes) (image_names bytes) missing (readable_lines (faulty_text bytes)) faults warnings
+  pub are : AreFaultsOf bytes faults
+  pub text : checked.text ≡ shown_check file form (flaw_in config_in bytes) (asked_target bytes) (image_names bytes) (readable_lines (faulty_text bytes)) faults
   pub is_sound : checked.is_sound ≡ (length faults == 0)
-  pub note : checked.note ≡ noted_by any missing
-
--- the same with those alone that are given
-abbrev pub IsCheckOf : List ℕ → List ℕ → Form → Checked → Type 0
-IsCheckOf file bytes form checked = IsCheckBy false file bytes form checked

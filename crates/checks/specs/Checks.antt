@@ -1,5 +1,5 @@
 -- All faults of a bundle: where a build answers one refusal, the least, these are all of the first phase of reading that has one (own).
-use Rattle.std.specs.Prelude.{◌≡◌, ◌≢◌, ◌⊎◌, ℕ, Bool, false, List, [], ◌∷◌, map, Option, Ok, Err}
+use Rattle.std.specs.Prelude.{◌≡◌, ◌≢◌, ◌⊎◌, ℕ, List, [], ◌∷◌, map, Option, Ok, Err}
 use Rattle.std.specs.FinMap.{get}
 use Rattle.plain.specs.declared.fault.Fault.TheVariants.{Because}
 use Rattle.plain.specs.declared.refusal.Refusal.{Refusal}
@@ -19,7 +19,6 @@ use Rattle.imageconfig.specs.declared.config.Config.{Config}
 use Rattle.evaluation.specs.Faults.{AreTableFaults}
 use Rattle.bundle.specs.Reading.{ReadsBundle}
 use Rattle.bundle.specs.declared.whole.Bundle.{Bundle}
-use Rattle.stubs.specs.Stubbing.{HoldsBy}
 
 -- the faults of a file's stages: all that the names of the file are refused for; where there is nothing, those of the needed stages
 abbrev pub AreStageFaults : ImagesValue Config → Values → Option (List ℕ) → List Instruction → List Rejection → Type 0
@@ -33,19 +32,11 @@ AreFileFaults images args target text faults =
     ((refusals : List Refusal) × AreFaults text refusals × (faults ≡ map rejection_of refusals) × (faults ≢ []))
     ⊎ ((is : List Instruction) × AreInstructions text is × AreStageFaults images args target is faults)
 
--- the same of a bundle's Dockerfile
-abbrev pub AreBundleFaults : Bundle Config → List Rejection → Type 0
-AreBundleFaults bundle faults = AreFileFaults bundle.images (get bundle.args) bundle.target bundle.dockerfile faults
-
 -- The faults of the bytes of a bundle, in the order of their lines: the one that they are refused for as a bundle, or for their ignore file; else
 -- all of the Dockerfile's text, which are those of the first phase that has one: the whole text and its lines, or its instructions; else all of
--- its stages; else those of the evaluation of the needed stages, one at most of each. With any image they are those
--- of the bundle in which a stub stands for each image that it lacks. An accepted bundle has none.
-abbrev pub AreFaultsBy : Bool → List ℕ → List Rejection → Type 0
-AreFaultsBy any bytes faults =
-    ((refusal : Refusal) × ReadsBundle config_in bytes (Err (Because refusal)) × (faults ≡ rejection_of refusal ∷ []))
-    ⊎ ((bundle : Bundle Config) × ReadsBundle config_in bytes (Ok bundle) × HoldsBy any (λ given. AreBundleFaults given faults) bundle)
-
--- the same of the bundle as it is
+-- its stages; else those of the evaluation of the needed stages, one at most of each. An accepted bundle has none.
 abbrev pub AreFaultsOf : List ℕ → List Rejection → Type 0
-AreFaultsOf bytes faults = AreFaultsBy false bytes faults
+AreFaultsOf bytes faults =
+    ((refusal : Refusal) × ReadsBundle config_in bytes (Err (Because refusal)) × (faults ≡ rejection_of refusal ∷ []))
+    ⊎ ((bundle : Bundle Config) × ReadsBundle config_in bytes (Ok bundle)
+    × AreFileFaults bundle.images (get bundle.args) bundle.target bundle.dockerfile faults)

@@ -3,7 +3,6 @@ use Rattle.std.specs.Prelude.{◌++◌, ◌+◌, ◌-◌, ◌==◌, nat_lt, ℕ,
 use Rattle.std.specs.Fmt.{decimal}
 use Rattle.sentences.specs.Json.{json_line}
 use Rattle.sentences.specs.Showing.{Pointer, headed, noted, numbered, placed}
-use Rattle.sentences.specs.declared.level.Level.{Level}
 use Rattle.sentences.specs.declared.message.Message.{Message}
 use Rattle.checks.specs.Mark.{mark_under}
 use Rattle.checks.specs.Visible.{visible}
@@ -55,7 +54,7 @@ abbrev pub shown_wide : List ℕ → List ℕ → List ℕ → ℕ → List (Lis
 shown_wide widest file name number own message marked = (headed (placed (visible file) number (column_of marked)) name (visible message.wrong)
     ++ excerpt widest number own marked) ++ noted widest (visible message.helps)
 
--- what is shown to a person of a fault, a warning or a failure of the file of this name and of the lines of an instruction, of which the first has this number, with
+-- what is shown to a person of a fault or a failure of the file of this name and of the lines of an instruction, of which the first has this number, with
 -- its code or its cause and what is said of it
 unfoldable pub shown_plain : List ℕ → List ℕ → ℕ → List (List ℕ) → Message → Option Marked → List ℕ
 shown_plain file name number own message marked = shown_wide (widest_number number own marked) file name number own message marked
@@ -82,6 +81,6 @@ text_column own marked = (length (ended (take marked.above own)) + length marked
 abbrev pub text_pointer : List (List ℕ) → Marked → Pointer
 text_pointer own marked = (text_column own marked, marked.word)
 
--- what a program gets of a fault or a warning, by the same parts and its level: its lines are one text
-unfoldable pub shown_json : Level → List ℕ → List ℕ → ℕ → List (List ℕ) → Message → Option Marked → List ℕ
-shown_json level file code number own message marked = json_line level file code number message (text_of own) (option_map (text_pointer own) marked)
+-- what a program gets of a fault, by the same parts: its lines are one text
+unfoldable pub shown_json : List ℕ → List ℕ → ℕ → List (List ℕ) → Message → Option Marked → List ℕ
+shown_json file code number own message marked = json_line file code number message (text_of own) (option_map (text_pointer own) marked)

@@ -2,10 +2,8 @@ pub mod Checked
 pub mod Checks
 pub mod Failing
 pub mod Images
-pub mod Lacked
 pub mod Layout
 pub mod Mark
 pub mod PrivateImages
 pub mod Shown
 pub mod Visible
-pub mod Warned

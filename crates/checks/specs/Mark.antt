@@ -85,10 +85,6 @@ spot_by reason lines own number = option_or (told_spot reason own) (faulty_spot 
 abbrev pub marked_whole : PlacedSpot → Marked
 marked_whole it = record { above = it.0; before = it.1.before; word = it.1.word }
 
--- what is marked of these lines, by a word that they may have
-abbrev pub marked_word : List ℕ → List (List ℕ) → Option Marked
-marked_word word own = option_map marked_whole (spotted_in 0 word own)
-
 -- the item of a mount that is marked in place of its flag
 abbrev pub marked_within : PlacedSpot → Option FaultyItem → Marked
 marked_within it None = marked_whole it

@@ -5,7 +5,6 @@ use Rattle.plain.specs.declared.refusal.Code.TheVariants.{R12}
 use Rattle.expand.specs.declared.reason.Reason.{Reason}
 use Rattle.expand.specs.declared.reason.Reason.TheVariants.{Coded, Required}
 use Rattle.expand.specs.declared.reason.Rejection.{Rejection}
-use Rattle.stages.specs.declared.image_name.ImageName.{ImageName}
 use Rattle.checks.specs.Shown.{shown_faults}
 use Rattle.checks.specs.declared.form.Form.{Form}
 use Rattle.checks.specs.declared.images.Unread.{Unread}
@@ -23,5 +22,5 @@ needs_images (Required text) = false
 -- faults are shown alike with these names of images and with others
 abbrev pub AreShownAlike : List (List ℕ) → List (List ℕ) → List Rejection → Type 0
 AreShownAlike images others faults =
-    (file : List ℕ) (form : Form) (target : Option (List ℕ)) (missing : List ImageName) (lines : List (List ℕ))
-    → shown_faults file form target images missing lines faults ≡ shown_faults file form target others missing lines faults
+    (file : List ℕ) (form : Form) (target : Option (List ℕ)) (lines : List (List ℕ))
+    → shown_faults file form target images lines faults ≡ shown_faults file form target others lines faults

@@ -12,14 +12,11 @@ use Rattle.sentences.specs.Message.{code_of}
 use Rattle.sentences.specs.Showing.{headed, noted}
 use Rattle.sentences.specs.Subject.{subject_of}
 use Rattle.sentences.specs.Table.{remedy, sentence}
-use Rattle.sentences.specs.declared.level.Level.TheVariants.{Error}
 use Rattle.sentences.specs.declared.message.Message.{Message}
 use Rattle.flaws.specs.Places.{place_text}
 use Rattle.flaws.specs.declared.flaw.Flaw.{Flaw}
 use Rattle.meant.specs.Own.{own_of}
 use Rattle.meant.specs.Told.{message_by}
-use Rattle.stages.specs.declared.image_name.ImageName.{ImageName}
-use Rattle.checks.specs.Lacked.{asked_on}
 use Rattle.checks.specs.Layout.{shown_json, shown_plain}
 use Rattle.checks.specs.Mark.{PlacedSpot, marked_by, spot_by}
 use Rattle.checks.specs.Visible.{visible}
@@ -64,25 +61,23 @@ word_in found = option_map (λ it. it.1.word) found
 -- all texts as a terminal may have them, and a program as they stand
 abbrev pub shown_told : List ℕ → Form → Rejection → List (List ℕ) → Message → Option Marked → List ℕ
 shown_told file Plain fault own message marked = shown_plain (place_of file fault.reason) (code_of fault.reason) fault.line own message marked
-shown_told file Json fault own message marked = shown_json Error (place_of file fault.reason) (code_of fault.reason) fault.line own message marked
+shown_told file Json fault own message marked = shown_json (place_of file fault.reason) (code_of fault.reason) fault.line own message marked
 
--- what is said of a fault of a build of this target with these images, in a file of these lines, of which these are its own, if they ask for the image
--- `asked` that isn't given
-abbrev pub message_in : Option (List ℕ) → List (List ℕ) → Option (List ℕ) → List (List ℕ) → List (List ℕ) → Rejection → Message
-message_in target images asked lines own fault = message_by target images asked lines own fault.reason fault.line (word_in (spot_by fault.reason lines own fault.line))
+-- what is said of a fault of a build of this target with these images, in a file of these lines, of which these are its own
+abbrev pub message_in : Option (List ℕ) → List (List ℕ) → List (List ℕ) → List (List ℕ) → Rejection → Message
+message_in target images lines own fault = message_by target images None lines own fault.reason fault.line (word_in (spot_by fault.reason lines own fault.line))
 
-abbrev pub shown_own : List ℕ → Form → Option (List ℕ) → List (List ℕ) → Option (List ℕ) → List (List ℕ) → List (List ℕ) → Rejection → List ℕ
-shown_own file form target images asked lines own fault =
-    shown_told file form fault own (message_in target images asked lines own fault) (marked_by fault.reason (spot_by fault.reason lines own fault.line))
+abbrev pub shown_own : List ℕ → Form → Option (List ℕ) → List (List ℕ) → List (List ℕ) → List (List ℕ) → Rejection → List ℕ
+shown_own file form target images lines own fault =
+    shown_told file form fault own (message_in target images lines own fault) (marked_by fault.reason (spot_by fault.reason lines own fault.line))
 
--- what is shown of a fault of a build of this target with these images, in a text with these lines, if it is about a line that asks for the image `asked`
-abbrev pub shown_fault : List ℕ → Form → Option (List ℕ) → List (List ℕ) → Option (List ℕ) → List (List ℕ) → Rejection → List ℕ
-shown_fault file form target images asked lines fault = shown_own file form target images asked lines (own_in fault.reason lines fault.line) fault
+-- what is shown of a fault of a build of this target with these images, in a text with these lines
+abbrev pub shown_fault : List ℕ → Form → Option (List ℕ) → List (List ℕ) → List (List ℕ) → Rejection → List ℕ
+shown_fault file form target images lines fault = shown_own file form target images lines (own_in fault.reason lines fault.line) fault
 
--- what is shown of faults of a Dockerfile that is called so, one after another, in a build with these images in which these are missing
-abbrev pub shown_faults : List ℕ → Form → Option (List ℕ) → List (List ℕ) → List ImageName → List (List ℕ) → List Rejection → List ℕ
-shown_faults file form target images missing lines faults =
-    flat_map (λ fault. shown_fault file form target images (asked_on missing fault.line) lines fault) faults
+-- what is shown of faults of a Dockerfile that is called so, one after another
+abbrev pub shown_faults : List ℕ → Form → Option (List ℕ) → List (List ℕ) → List (List ℕ) → List Rejection → List ℕ
+shown_faults file form target images lines faults = flat_map (shown_fault file form target images lines) faults
 
 -- what is shown to a person of bytes that are no bundle, being wrong in this place
 abbrev pub shown_place : List ℕ → List ℕ
@@ -94,6 +89,6 @@ shown_flaw Plain place = shown_place (visible place)
 shown_flaw Json place = place_line (codes "bundle") R20 place
 
 -- what is shown of a bundle's faults: bytes that are no bundle are shown with where they are wrong
-abbrev pub shown_check : List ℕ → Form → Option Flaw → Option (List ℕ) → List (List ℕ) → List ImageName → List (List ℕ) → List Rejection → List ℕ
-shown_check file form None target images missing lines faults = shown_faults file form target images missing lines faults
-shown_check file form (Some flaw) target images missing lines faults = shown_flaw form (place_text flaw)
+abbrev pub shown_check : List ℕ → Form → Option Flaw → Option (List ℕ) → List (List ℕ) → List (List ℕ) → List Rejection → List ℕ
+shown_check file form None target images lines faults = shown_faults file form target images lines faults
+shown_check file form (Some flaw) target images lines faults = shown_flaw form (place_text flaw)

@@ -9,13 +9,8 @@ ghost use Rattle.evaluation.specs.Faults.{AreTableFaults};
 ghost use Rattle.bundle.specs.IgnoreFile.{ignore_bytes_of};
 ghost use Rattle.bundle.specs.Reading.{ReadsBundle};
 ghost use Rattle.flaws.specs.Flaws.{flaw_in};
-ghost use Rattle.stubs.specs.Naming.{AreMissing};
-ghost use Rattle.stubs.specs.Stubbing.{HoldsBy};
-ghost use Rattle.checks.specs.Checks.{AreStageFaults, AreFileFaults, AreBundleFaults, AreFaultsBy};
+ghost use Rattle.checks.specs.Checks.{AreStageFaults, AreFileFaults, AreFaultsOf};
 ghost use Rattle.checks.specs.Checked.{faulty_text, asked_target};
-ghost use Rattle.warnings.specs.Warnings.{AreWarningsOf};
-ghost use Rattle.checks.specs.Lacked.{AreLacked};
-ghost use Rattle.checks.specs.Warned.{AreWarningsIn};
 
 use bundle::{Bundle, read_bundle, read_ignore_bytes};
 use dockerfile::Dockerfile;
@@ -24,12 +19,10 @@ use expand::Rejection;
 use flaws::{Flaw, find};
 use imageconfig::{BoxedConfig, Config};
 use plain::{Bytes, Exact, Fault, Items, Memory, Refusal, Text};
-use stages::{ImageName, TargetTable, list_refusals};
+use stages::{TargetTable, list_refusals};
 use std::alloc::Global;
 use std::hash::RandomState;
 use std::thread::Threads;
-use stubs::{missing_images, stub_for};
-use warnings::{Warning, find_warnings};
 
 /// The faults of a bundle, and the text that they are in.
 #[derive(Drop)]
@@ -43,35 +36,27 @@ pub struct Findings {
     pub target: Option<Text>,
     /// Where the bytes are wrong if they are no bundle.
     pub flaw: Option<Flaw>,
-    /// The images that its Dockerfile names and the bundle lacks, in the order of the file and as often as they are named.
-    pub missing: Items<ImageName>,
-    /// The warnings of its Dockerfile, as `find_warnings` of `warnings` finds them.
-    pub warnings: Items<Warning>,
 }
 
 /// All faults of the bytes of a bundle, of the first phase that has one, in the order of their lines (own).
 ///
 /// There is one if the bytes are no bundle (R20), and if the ignore file has a bad line (R19). The faults of the Dockerfile's text are those of
 /// `Dockerfile::check`, those of its stages are those of `list_refusals`, and those of the evaluation of the stages that the target needs are
-/// those of `evaluation::list_faults`. An accepted bundle has none. With `any_image` these are the faults of the bundle with its stubs, as `stubs::stub_for`
-/// gives it.
+/// those of `evaluation::list_faults`. An accepted bundle has none.
 pub fn check_bundle(
     alloc: Global,
     keys: RandomState,
     rt: &(impl Threads + Sync),
     bytes: &[u8],
-    any_image: bool,
 ) -> Result<Findings, Memory>
-    ensures faults { IfOk result (λ found. AreFaultsBy any_image bytes.now found.faults) }
+    ensures faults { IfOk result (λ found. AreFaultsOf bytes.now found.faults) }
     ensures text { IfOk result (λ found. found.text ≡ faulty_text bytes.now) }
     ensures target { IfOk result (λ found. found.target ≡ asked_target bytes.now) }
     ensures flaw { IfOk result (λ found. found.flaw ≡ flaw_in config_in bytes.now) }
-    ensures missing { IfOk result (λ found. AreLacked bytes.now found.missing) }
-    ensures warnings { IfOk result (λ found. AreWarningsIn bytes.now found.warnings) }
 {
     flaws::laws::a_bundle_has_no_flaw::<Config>();
     match read_bundle(alloc, keys, rt, bytes) {
-        Ok(bundle) => check_whole(alloc, keys, bundle, any_image),
+        Ok(bundle) => check_whole(alloc, keys, bundle),
         Err(Fault::Because(refusal)) => refused(alloc, keys, rt, bytes, refusal),
         Err(Fault::Memory) => Err(Memory),
     }
@@ -90,8 +75,6 @@ fn refused(
     ensures text { IfOk result (λ found. found.text ≡ faulty_text bytes.now) }
     ensures target { IfOk result (λ found. found.target ≡ asked_target bytes.now) }
     ensures flaw { IfOk result (λ found. found.flaw ≡ flaw_in config_in bytes.now) }
-    ensures missing { IfOk result (λ found. found.missing ≡ []) }
-    ensures warnings { IfOk result (λ found. found.warnings ≡ []) }
 {
     let text = ignore_file_or_none(alloc, keys, rt, bytes)?;
     let flaw = find::<Config>(alloc, keys, bytes)?;
@@ -101,8 +84,6 @@ fn refused(
         text,
         target: None,
         flaw,
-        missing: Items::new(alloc),
-        warnings: Items::new(alloc),
     })
 }
 
@@ -122,65 +103,35 @@ fn ignore_file_or_none(
     }
 }
 
-/// What is kept of a bundle beside its faults.
-#[derive(Drop)]
-struct Kept {
-    text: Bytes,
-    target: Option<Text>,
-    missing: Items<ImageName>,
-    warnings: Items<Warning>,
-}
-
-/// The text of a bundle's Dockerfile, the target, the images that the bundle lacks, and the warnings.
-fn keep(alloc: Global, keys: RandomState, bundle: &Bundle<BoxedConfig>) -> Result<Kept, Memory>
-    ensures text { IfOk result (λ it. it.text ≡ bundle.now.dockerfile) }
-    ensures target { IfOk result (λ it. it.target ≡ bundle.now.target) }
-    ensures missing { IfOk result (λ it. AreMissing bundle.now it.missing) }
-    ensures warnings { IfOk result (λ it. AreWarningsOf (arg_value bundle.now.args) bundle.now.dockerfile it.warnings) }
+/// The text of a bundle's Dockerfile, and its target.
+fn asked(alloc: Global, bundle: &Bundle<BoxedConfig>) -> Result<(Bytes, Option<Text>), Memory>
+    ensures text { IfOk result (λ it. it.0 ≡ bundle.now.dockerfile) }
+    ensures target { IfOk result (λ it. it.1 ≡ bundle.now.target) }
 {
-    let missing = missing_images(alloc, keys, bundle)?;
-    let warnings = find_warnings(alloc, keys, bundle.dockerfile.as_slice(), &bundle.args)?;
     let text = Bytes::from_slice(alloc, bundle.dockerfile.as_slice())?;
     let target = bundle.target.copy(alloc)?;
-    Ok(Kept {
-        text,
-        target,
-        missing,
-        warnings,
-    })
+    Ok((text, target))
 }
 
-/// The faults of a bundle's Dockerfile, its text, the bundle's target and the images that it lacks.
+/// The faults of a bundle's Dockerfile, its text and the bundle's target.
 fn check_whole(
     alloc: Global,
     keys: RandomState,
     bundle: Bundle<BoxedConfig>,
-    any_image: bool,
 ) -> Result<Findings, Memory>
-    ensures faults { IfOk result (λ found. HoldsBy any_image (λ given. AreBundleFaults given found.faults) bundle) }
+    ensures faults { IfOk result (λ found. AreFileFaults bundle.images (arg_value bundle.args) bundle.target bundle.dockerfile found.faults) }
     ensures text { IfOk result (λ found. found.text ≡ bundle.dockerfile) }
     ensures target { IfOk result (λ found. found.target ≡ bundle.target) }
     ensures flaw { IfOk result (λ found. found.flaw ≡ None) }
-    ensures missing { IfOk result (λ found. AreMissing bundle found.missing) }
-    ensures warnings { IfOk result (λ found. AreWarningsOf (arg_value bundle.args) bundle.dockerfile found.warnings) }
 {
-    match keep(alloc, keys, &bundle) {
-        Ok(
-            Kept {
-                text,
-                target,
-                missing,
-                warnings,
-            },
-        ) => {
-            let faults = check_given(alloc, keys, bundle, any_image)?;
+    match asked(alloc, &bundle) {
+        Ok((text, target)) => {
+            let faults = check_file(alloc, keys, bundle)?;
             Ok(Findings {
                 faults,
                 text,
                 target,
                 flaw: None,
-                missing,
-                warnings,
             })
         }
         Err(memory) => {
@@ -188,19 +139,6 @@ fn check_whole(
             Err(memory)
         }
     }
-}
-
-/// The faults of a bundle's Dockerfile, or of the bundle with its stubs.
-fn check_given(
-    alloc: Global,
-    keys: RandomState,
-    bundle: Bundle<BoxedConfig>,
-    any_image: bool,
-) -> Result<Items<Rejection>, Memory>
-    ensures { IfOk result (λ faults. HoldsBy any_image (λ given. AreBundleFaults given faults) bundle) }
-{
-    let given = stub_for(alloc, keys, bundle, any_image)?;
-    check_file(alloc, keys, given)
 }
 
 /// A list of one fault.

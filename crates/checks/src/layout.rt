@@ -7,7 +7,7 @@ ghost use Rattle.checks.specs.Layout.{number_below, last_number, widest_number, 
 use crate::mark::{Marked, mark_under};
 use crate::visible::visible;
 use plain::Memory;
-use sentences::{Level, Message, headed, json_line, noted, numbered, placed};
+use sentences::{Message, headed, json_line, noted, numbered, placed};
 use std::alloc::Global;
 
 /// The number of the line below so many lines of an instruction; that of the first one if it hasn't so many.
@@ -209,11 +209,10 @@ fn text_column(alloc: Global, own: &[&str], marked: &Marked) -> Result<usize, Me
     Ok(front.len() + marked.before.as_str().len() + 1)
 }
 
-/// What a program gets of a fault or a warning, by its parts as `shown_plain` has them.
+/// What a program gets of a fault, by its parts as `shown_plain` has them.
 #[tactic(auto, unfolding(crate::specs::Layout::shown_json))]
 pub(crate) fn shown_json(
     alloc: Global,
-    level: Level,
     file: &str,
     code: &str,
     number: u32,
@@ -221,7 +220,7 @@ pub(crate) fn shown_json(
     message: &Message,
     marked: Option<&Marked>,
 ) -> Result<String, Memory>
-    ensures { IfOk result (λ text. string_bytes text ≡ shown_json level file.now code.now number (map (λ line. line.now) own.now) message.now (option_copied marked.entry)) }
+    ensures { IfOk result (λ text. string_bytes text ≡ shown_json file.now code.now number (map (λ line. line.now) own.now) message.now (option_copied marked.entry)) }
 {
     let text = text_of(alloc, own)?;
     match marked {
@@ -229,7 +228,6 @@ pub(crate) fn shown_json(
             let column = text_column(alloc, own, marked)?;
             json_line(
                 alloc,
-                level,
                 file,
                 code,
                 number,
@@ -238,15 +236,6 @@ pub(crate) fn shown_json(
                 Some((column, marked.word.as_str())),
             )
         }
-        None => json_line(
-            alloc,
-            level,
-            file,
-            code,
-            number,
-            message,
-            text.as_str(),
-            None,
-        ),
+        None => json_line(alloc, file, code, number, message, text.as_str(), None),
     }
 }

@@ -8,22 +8,17 @@
 // `shown_faults` shows faults, each with the lines that it is about, to a person or as lines of JSON. It is given the faults and their text, whose lines it
 // lists first, so that each is found at once. `check` does both, and shows bytes that are no bundle with where they are wrong, which `flaws` finds.
 //
-// For images that aren't given stubs may stand: then the faults are those of the bundle with its stubs, and `Checked` has a note of them, which `note_images`
-// finds for others too.
-//
-// After the faults come the warnings of the Dockerfile, which `warnings` finds and `shown_warnings` shows. They change nothing of the status.
-//
 // What is said of a fault, `meant` finds. If the lines of its instruction tell which of their words it is about, which `pointed` finds, the line of that word
 // is shown, for a person with a mark under it, and else all lines of the instruction.
 //
 // `shown_failure` shows an instruction that a build failed at in the same form. Of a COPY that misses a source `shown_missing` names it, and
 // `shown_left_out` the line of the ignore file that leaves it out.
 //
-// The central definitions are `AreFaultsBy` in specs/Checks.antt, `shown_faults` in specs/Shown.antt, `IsCheckBy` in specs/Checked.antt, and
+// The central definitions are `AreFaultsOf` in specs/Checks.antt, `shown_faults` in specs/Shown.antt, `IsCheckOf` in specs/Checked.antt, and
 // `shown_failure` in specs/Failing.antt.
 //
 // ```
-// let checked = check(alloc, keys, &rt, "Dockerfile", bytes, Form::Plain, false)?; // of a bundle with the Dockerfile FROM scratch\nRUNN make
+// let checked = check(alloc, keys, &rt, "Dockerfile", bytes, Form::Plain)?; // of a bundle with the Dockerfile FROM scratch\nRUNN make
 // // Dockerfile:2:1: R04: there is no such instruction here; did you mean RUN?
 // //     2 | RUNN make
 // //       | ^^^^
@@ -36,18 +31,14 @@ mod checking;
 mod failing;
 mod form;
 mod images;
-mod lacked;
 pub mod laws;
 mod layout;
 mod mark;
 mod showing;
 mod visible;
-mod warned;
 
 pub use checked::{Checked, check};
 pub use checking::{Findings, check_bundle};
 pub use failing::{shown_failure, shown_left_out, shown_missing};
 pub use form::Form;
-pub use lacked::note_images;
 pub use showing::shown_faults;
-pub use warned::shown_warnings;

@@ -4,7 +4,7 @@ ghost use Rattle.std.specs.List.{flat_map};
 ghost use Rattle.std.specs.String.{string_bytes};
 ghost use Rattle.meant.specs.WordFaults.{word_fault};
 ghost use Rattle.pointed.specs.Spot.{spot as spot_of};
-ghost use Rattle.checks.specs.Mark.{blank_under, caret_under, mark_under, placed_spot, later_spot, later_by, spot_in, spotted_in, faulty_spot, told_spot, spot_by, marked_whole, marked_word, marked_item, marked_by};
+ghost use Rattle.checks.specs.Mark.{blank_under, caret_under, mark_under, placed_spot, later_spot, later_by, spot_in, spotted_in, faulty_spot, told_spot, spot_by, marked_whole, marked_item, marked_by};
 
 use crate::visible::visible;
 use ascii::first_piece;
@@ -209,16 +209,6 @@ fn marked_whole(alloc: Global, above: usize, spot: Pointed<'_>) -> Result<Marked
         before,
         word,
     })
-}
-
-/// What is marked of these lines, by a word that they may have.
-pub(crate) fn marked_word(alloc: Global, own: &[&str], word: &str) -> Result<Option<Marked>, Memory>
-    ensures { IfOk result (λ marked. marked ≡ marked_word word.now (map (λ line. line.now) own.now)) }
-{
-    match spotted_in(alloc, own, word)? {
-        Some((above, spot)) => Ok(Some(marked_whole(alloc, above, spot)?)),
-        None => Ok(None),
-    }
 }
 
 /// The item of a mount that is marked in place of its flag: the first one with which something is wrong.

@@ -9,7 +9,6 @@ ghost use Rattle.checks.specs.Visible.{visible};
 ghost use Rattle.flaws.specs.Places.{place_text};
 
 use crate::Form;
-use crate::lacked::asked_lines;
 use crate::layout::{shown_json, shown_plain};
 use crate::mark::{Marked, marked_by, spot_by};
 use crate::visible::visible;
@@ -18,14 +17,12 @@ use flaws::{Flaw, place_text};
 use meant::{message_by, own_of};
 use plain::{Code, Memory, Text};
 use pointed::Pointed;
-use sentences::{Level, Message, Subject, code_of, headed, noted, place_line, remedy, sentence};
-use stages::ImageName;
+use sentences::{Message, Subject, code_of, headed, noted, place_line, remedy, sentence};
 use std::alloc::{AllocError, Global};
 
 /// What is shown of faults of a build of this target with images of these names, in their order and in this form, whose lines are counted in this text: that
 /// of the Dockerfile, which is the file of this name, or of its ignore file, which is called `.dockerignore`. It need not be UTF-8: what isn't is shown as
-/// U+FFFD. Of a number that the text hasn't no line is shown, or an empty one where one is shown alone. Of the images that are missing, a line that is refused
-/// for one is shown with its name, which has the values of its variables.
+/// U+FFFD. Of a number that the text hasn't no line is shown, or an empty one where one is shown alone.
 ///
 /// A fault is shown with all lines of its instruction, and with what `message_by` of `meant` says of it. Of a word that a fault is about, as far as the lines
 /// tell it, the column is shown, and to a person its line alone, with a mark under it.
@@ -38,23 +35,13 @@ pub fn shown_faults(
     faults: &[Rejection],
     target: Option<&Text>,
     images: &[Text],
-    missing: &[ImageName],
     text: &[u8],
     form: Form,
 ) -> Result<Text, Memory>
-    ensures { IfOk result (λ shown. shown ≡ shown_faults file.now form (option_copied target.entry) images.now missing.now (readable_lines text.now) faults.now) }
+    ensures { IfOk result (λ shown. shown ≡ shown_faults file.now form (option_copied target.entry) images.now (readable_lines text.now) faults.now) }
 {
     let readable = String::from_utf8_lossy(alloc, text)?;
-    let shown = shown_in(
-        alloc,
-        file,
-        faults,
-        target,
-        images,
-        missing,
-        readable.as_str(),
-        form,
-    )?;
+    let shown = shown_in(alloc, file, faults, target, images, readable.as_str(), form)?;
     Ok(Text::from_string(shown))
 }
 
@@ -92,16 +79,15 @@ pub(crate) fn shown_check(
     flaw: Option<&Flaw>,
     target: Option<&Text>,
     images: &[Text],
-    missing: &[ImageName],
     faults: &[Rejection],
     text: &[u8],
     form: Form,
 ) -> Result<Text, Memory>
-    ensures { IfOk result (λ shown. shown ≡ shown_check file.now form (option_copied flaw.entry) (option_copied target.entry) images.now missing.now (readable_lines text.now) faults.now) }
+    ensures { IfOk result (λ shown. shown ≡ shown_check file.now form (option_copied flaw.entry) (option_copied target.entry) images.now (readable_lines text.now) faults.now) }
 {
     match flaw {
         Some(flaw) => Ok(Text::from_string(shown_flaw(alloc, flaw, form)?)),
-        None => shown_faults(alloc, file, faults, target, images, missing, text, form),
+        None => shown_faults(alloc, file, faults, target, images, text, form),
     }
 }
 
@@ -112,26 +98,16 @@ fn shown_in(
     faults: &[Rejection],
     target: Option<&Text>,
     images: &[Text],
-    missing: &[ImageName],
     text: &str,
     form: Form,
 ) -> Result<String, Memory>
-    ensures { IfOk result (λ shown. string_bytes shown ≡ shown_faults file.now form (option_copied target.entry) images.now missing.now (text_lines text.now) faults.now) }
+    ensures { IfOk result (λ shown. string_bytes shown ≡ shown_faults file.now form (option_copied target.entry) images.now (text_lines text.now) faults.now) }
 {
     if faults.is_empty() {
         return Ok(String::new(alloc));
     }
     let lines = lines_of(alloc, text)?;
-    shown_each(
-        alloc,
-        file,
-        faults,
-        target,
-        images,
-        missing,
-        lines.as_slice(),
-        form,
-    )
+    shown_each(alloc, file, faults, target, images, lines.as_slice(), form)
 }
 
 /// What is shown of faults, one after another, their lines being among these.
@@ -141,17 +117,14 @@ fn shown_each(
     faults: &[Rejection],
     target: Option<&Text>,
     images: &[Text],
-    missing: &[ImageName],
     lines: &[&str],
     form: Form,
 ) -> Result<String, Memory>
-    ensures { IfOk result (λ shown. string_bytes shown ≡ shown_faults file.now form (option_copied target.entry) images.now missing.now (map (λ line. line.now) lines.now) faults.now) }
+    ensures { IfOk result (λ shown. string_bytes shown ≡ shown_faults file.now form (option_copied target.entry) images.now (map (λ line. line.now) lines.now) faults.now) }
 {
-    let asked = asked_lines(alloc, missing)?;
     let mut text = String::new(alloc);
     for fault in faults {
-        let image = asked.get(&fault.line);
-        let shown = shown_fault(alloc, file, fault, target, images, image, lines, form)?;
+        let shown = shown_fault(alloc, file, fault, target, images, lines, form)?;
         text.push_str(shown.as_str())?;
     }
     Ok(text)
@@ -210,28 +183,17 @@ fn word_in<'a>(found: &Option<(usize, Pointed<'a>)>) -> Option<&'a str>
     }
 }
 
-/// The name of an image, if there is one.
-fn name_of<'a>(asked: Option<&'a Text>) -> Option<&'a str>
-    ensures { option_copied result ≡ option_copied asked.entry }
-{
-    match asked {
-        Some(name) => Some(name.as_str()),
-        None => None,
-    }
-}
-
-/// What is shown of a fault of a file with these lines, if it is about a line that asks for the image `asked`.
+/// What is shown of a fault of a file with these lines.
 fn shown_fault(
     alloc: Global,
     file: &str,
     fault: &Rejection,
     target: Option<&Text>,
     images: &[Text],
-    asked: Option<&Text>,
     lines: &[&str],
     form: Form,
 ) -> Result<String, Memory>
-    ensures { IfOk result (λ text. string_bytes text ≡ shown_fault file.now form (option_copied target.entry) images.now (option_copied asked.entry) (map (λ line. line.now) lines.now) fault.now) }
+    ensures { IfOk result (λ text. string_bytes text ≡ shown_fault file.now form (option_copied target.entry) images.now (map (λ line. line.now) lines.now) fault.now) }
 {
     let own = own_in(alloc, &fault.reason, lines, fault.line)?;
     let found = spot_by(alloc, &fault.reason, lines, own.as_slice(), fault.line)?;
@@ -239,7 +201,7 @@ fn shown_fault(
         alloc,
         target,
         images,
-        name_of(asked),
+        None,
         lines,
         own.as_slice(),
         &fault.reason,
@@ -274,16 +236,7 @@ fn shown_told(
     let (place, code) = (place_of(file, &fault.reason), code.as_str());
     match form {
         Form::Plain => shown_plain(alloc, place, code, fault.line, own, message, marked),
-        Form::Json => shown_json(
-            alloc,
-            Level::Error,
-            place,
-            code,
-            fault.line,
-            own,
-            message,
-            marked,
-        ),
+        Form::Json => shown_json(alloc, place, code, fault.line, own, message, marked),
     }
 }
 

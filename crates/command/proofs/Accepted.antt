@@ -10,7 +10,7 @@ use Rattle.clap.specs.Kinds.{FailsBy, HasKind, Kinds, or_else}
 use Rattle.clap.specs.declared.error.Error.{Error}
 use Rattle.clap.specs.Faults.{check_fault, defaults_fault, entered_fault, level_fault, settle_fault, walk_fault}
 use Rattle.std.specs.Option.{option_map_or}
-use Rattle.std.specs.Prelude.{option_map, unwrap_or, slice_index_or, ◌||◌, ◌==◌}
+use Rattle.std.specs.Prelude.{option_map, unwrap_or, slice_index_or, not, ◌||◌, ◌==◌}
 use Rattle.clap.specs.Lexer.{without_minus}
 use Rattle.clap.specs.Values.{IsSignedIn}
 use Rattle.clap.specs.Walk.{answers_to, finished, nothing_held, settled, walk, walk_from}
@@ -20,13 +20,12 @@ use Rattle.clap.proofs.ValueTestLemmas.{accepts-Accepts}
 use Rattle.plain.specs.Limits.{most_workers}
 use Rattle.command.specs.CommandLine.{least_workers, whole_command}
 use Rattle.command.specs.Sources.{choice_of, source_of}
-use Rattle.command.specs.Tasks.{IsTaskOf, IsWorkers, argument_faults, check_of, faults_of, graph_of, images_of, is_whole, pack_by, pack_of, pack_with, why_with}
-use Rattle.command.specs.Engine.{config_of}
+use Rattle.command.specs.Tasks.{IsTaskOf, IsWorkers, argument_faults, check_with, faults_of, graph_with, is_whole, pack_by, pack_of, pack_with, why_with}
 use Rattle.command.specs.Llb.{llb_of}
 use Rattle.command.specs.declared.task.Choice.{Choice}
 use Rattle.command.specs.declared.task.PackOptions.{PackOptions}
 use Rattle.command.specs.declared.task.Task.{Task}
-use Rattle.command.specs.declared.task.Task.TheVariants.{Build, Graph, Pack, Why, Llb, Config, Images, Check, Explain}
+use Rattle.command.specs.declared.task.Task.TheVariants.{Build, Graph, Pack, Why, Llb, Config, Check, Explain}
 use Rattle.command.proofs.BuildWalk.{leaf, leaf_ok}
 use Rattle.command.proofs.PackWalk.{folder_ok, leaf as pack_leaf}
 use Rattle.command.proofs.Kept.{or_else-left, or_else-right, some_kind}
@@ -89,7 +88,7 @@ made_whole (Some a) made x is = refl
 task_args : (found : Option (Text × List Row)) (task : Task) → IsTaskOf found task → argument_faults found ≡ []
 task_args None task asked = absurd asked
 task_args (Some found) (Build options) asked = rw (asked.0, asked.1.source) refl
-task_args (Some found) (Graph options) asked = rw (asked.0, asked.1) refl
+task_args (Some found) (Graph options) asked = rw asked.0 (made_whole (source_of (codes "FILE") found.1) (graph_with found.1) options asked.1)
 task_args (Some found) (Pack options) asked = rw asked.0 (go (first_of (codes "DIR") found.1) (choice_of found.1) asked.1)
   where
     go : (folder : Option Text) (choice : Option Choice) → pack_by found.1 folder choice ≡ Some options
@@ -98,9 +97,8 @@ task_args (Some found) (Pack options) asked = rw asked.0 (go (first_of (codes "D
     go (Some folder) choice is = made_whole choice (pack_with found.1 folder) options is
 task_args (Some found) (Why options) asked = rw asked.0 (made_whole (source_of (codes "bundle") found.1) (why_with found.1) options asked.1)
 task_args (Some found) (Llb options) asked = rw (asked.0, asked.1) refl
-task_args (Some found) (Config options) asked = rw (asked.0, asked.1) refl
-task_args (Some found) (Images options) asked = rw (asked.0, asked.1) refl
-task_args (Some found) (Check options) asked = rw (asked.0, asked.1) refl
+task_args (Some found) (Config source) asked = rw (asked.0, asked.1) refl
+task_args (Some found) (Check options) asked = rw asked.0 (made_whole (source_of (codes "FILE") found.1) (check_with found.1) options asked.1)
 task_args (Some found) (Explain source) asked = rw (asked.0, asked.1) refl
 
 -- the other commands as clap builds them
@@ -116,26 +114,23 @@ llb_leaf = slice_index_or app.subs 4 (new_shape [])
 abbrev config_leaf : Shape
 config_leaf = slice_index_or app.subs 5 (new_shape [])
 
-abbrev images_leaf : Shape
-images_leaf = slice_index_or app.subs 6 (new_shape [])
-
 abbrev check_leaf : Shape
-check_leaf = slice_index_or app.subs 7 (new_shape [])
+check_leaf = slice_index_or app.subs 6 (new_shape [])
 
 abbrev explain_leaf : Shape
-explain_leaf = slice_index_or app.subs 8 (new_shape [])
+explain_leaf = slice_index_or app.subs 7 (new_shape [])
 
 abbrev help_leaf : Shape
-help_leaf = slice_index_or app.subs 9 (new_shape [])
+help_leaf = slice_index_or app.subs 8 (new_shape [])
 
 or_false : (b : Bool) → (b || false) ≡ true → b ≡ true
 or_false true e = refl
 or_false false e = e
 
 -- the command that a name leads to, by which it answers to
-abbrev leads : Bool → Bool → Bool → Bool → Bool → Bool → Bool → Bool → Bool → Bool → Option Shape
-leads x y p w l c i k e z =
-    cond x (Some leaf) (cond y (Some graph_leaf) (cond p (Some pack_leaf) (cond w (Some why_leaf) (cond l (Some llb_leaf) (cond c (Some config_leaf) (cond i (Some images_leaf) (cond k (Some check_leaf) (cond e (Some explain_leaf) (cond z (Some help_leaf) None)))))))))
+abbrev leads : Bool → Bool → Bool → Bool → Bool → Bool → Bool → Bool → Bool → Option Shape
+leads x y p w l c k e z =
+    cond x (Some leaf) (cond y (Some graph_leaf) (cond p (Some pack_leaf) (cond w (Some why_leaf) (cond l (Some llb_leaf) (cond c (Some config_leaf) (cond k (Some check_leaf) (cond e (Some explain_leaf) (cond z (Some help_leaf) None))))))))
 
 -- what has to be there is
 there : {A : Type 0} (found : Option A) → cond (is_some found) [] (ValueValidation ∷ []) ≡ [] → (x : A) × (found ≡ Some x)
@@ -149,52 +144,51 @@ pack_at rows folder given e =
     let choice = there (choice_of rows) e in
     (pack_with rows folder choice.0, ap (λ (found : Option Text). pack_by rows found (choice_of rows)) given ∙ ap (λ (found : Option Choice). pack_by rows (Some folder) found) choice.1)
 
-met_at : (p : Text × List Text) (x y k w l c i h v z : Bool) → answers_to p.0 (label_of help_leaf) ≡ z → NotHelp (Some p)
-    → is_some (option_map (λ s. rows_at s p.1) (leads x y k w l c i h v z)) ≡ true
-    → option_map_or (λ s. level_fault s [] nothing_held p.1 false []) (leads x y k w l c i h v z) [] ≡ []
-    → argument_faults (option_map (λ s. rows_at s p.1) (leads x y k w l c i h v z)) ≡ []
-    → (task : Task) × IsTaskOf (option_map (λ s. rows_at s p.1) (leads x y k w l c i h v z)) task
-met_at p true y k w l c i h v z help not_help some e args =
+met_at : (p : Text × List Text) (x y k w l c h v z : Bool) → answers_to p.0 (label_of help_leaf) ≡ z → NotHelp (Some p)
+    → is_some (option_map (λ s. rows_at s p.1) (leads x y k w l c h v z)) ≡ true
+    → option_map_or (λ s. level_fault s [] nothing_held p.1 false []) (leads x y k w l c h v z) [] ≡ []
+    → argument_faults (option_map (λ s. rows_at s p.1) (leads x y k w l c h v z)) ≡ []
+    → (task : Task) × IsTaskOf (option_map (λ s. rows_at s p.1) (leads x y k w l c h v z)) task
+met_at p true y k w l c h v z help not_help some e args =
     let found = workers_of _ (leaf_ok p.1 e) in
     let source = there (source_of (codes "FILE") (rows_at leaf p.1).1) args in
     (Build (record { workers = found.0; source = source.0 }), (refl, record { workers = found.1; source = source.1 }))
-met_at p false true k w l c i h v z help not_help some e args =
-    let found = there (graph_of (rows_at graph_leaf p.1).1) args in
-    (Graph found.0, (refl, found.1))
-met_at p false false true w l c i h v z help not_help some e args =
+met_at p false true k w l c h v z help not_help some e args =
+    let rows = (rows_at graph_leaf p.1).1 in
+    let source = there (source_of (codes "FILE") rows) args in
+    (Graph (graph_with rows source.0), (refl, ap (option_map (graph_with rows)) source.1))
+met_at p false false true w l c h v z help not_help some e args =
     let folder = folder_ok p.1 e in
     let found = pack_at (finished pack_leaf.rules (walk pack_leaf.rules [] nothing_held p.1).held) folder.0 folder.1 args in
     (Pack found.0, (refl, found.1))
-met_at p false false false true l c i h v z help not_help some e args =
+met_at p false false false true l c h v z help not_help some e args =
     let rows = (rows_at why_leaf p.1).1 in
     let source = there (source_of (codes "bundle") rows) args in
     (Why (why_with rows source.0), (refl, ap (option_map (why_with rows)) source.1))
-met_at p false false false false true c i h v z help not_help some e args =
+met_at p false false false false true c h v z help not_help some e args =
     let found = there (llb_of (rows_at llb_leaf p.1).1) args in
     (Llb found.0, (refl, found.1))
-met_at p false false false false false true i h v z help not_help some e args =
-    let found = there (config_of (rows_at config_leaf p.1).1) args in
-    (Config found.0, (refl, found.1))
-met_at p false false false false false false true h v z help not_help some e args =
-    let found = there (images_of (rows_at images_leaf p.1).1) args in
-    (Images found.0, (refl, found.1))
-met_at p false false false false false false false true v z help not_help some e args =
-    let found = there (check_of (rows_at check_leaf p.1).1) args in
-    (Check found.0, (refl, found.1))
-met_at p false false false false false false false false true z help not_help some e args =
+met_at p false false false false false true h v z help not_help some e args =
+    let source = there (source_of (codes "FILE") (rows_at config_leaf p.1).1) args in
+    (Config source.0, (refl, source.1))
+met_at p false false false false false false true v z help not_help some e args =
+    let rows = (rows_at check_leaf p.1).1 in
+    let source = there (source_of (codes "FILE") rows) args in
+    (Check (check_with rows source.0), (refl, ap (option_map (check_with rows)) source.1))
+met_at p false false false false false false false true z help not_help some e args =
     let source = there (source_of (codes "FILE") (rows_at explain_leaf p.1).1) args in
     (Explain source.0, (refl, source.1))
-met_at p false false false false false false false false false true help not_help some e args =
+met_at p false false false false false false false false true help not_help some e args =
     let same = (bytes_eq-Decides (codes "help") p.0).0 (or_false _ help) in
     absurd (true≢false (sym ((bytes_eq-Decides p.0 (codes "help")).1 (sym same)) ∙ not_help))
-met_at p false false false false false false false false false false help not_help some e args = absurd (true≢false (sym some))
+met_at p false false false false false false false false false help not_help some e args = absurd (true≢false (sym some))
 
 stopped_at : (stop : Option (Text × List Text)) → NotHelp stop → is_some (entered app stop) ≡ true → entered_fault app stop ≡ []
     → argument_faults (entered app stop) ≡ [] → (task : Task) × IsTaskOf (entered app stop) task
 stopped_at None not_help some e args = absurd (true≢false (sym some))
 stopped_at (Some p) not_help some e args =
     met_at p (answers_to p.0 (label_of leaf)) (answers_to p.0 (label_of graph_leaf)) (answers_to p.0 (label_of pack_leaf)) (answers_to p.0 (label_of why_leaf))
-    (answers_to p.0 (label_of llb_leaf)) (answers_to p.0 (label_of config_leaf)) (answers_to p.0 (label_of images_leaf)) (answers_to p.0 (label_of check_leaf)) (answers_to p.0 (label_of explain_leaf)) (answers_to p.0 (label_of help_leaf)) refl not_help some e args
+    (answers_to p.0 (label_of llb_leaf)) (answers_to p.0 (label_of config_leaf)) (answers_to p.0 (label_of check_leaf)) (answers_to p.0 (label_of explain_leaf)) (answers_to p.0 (label_of help_leaf)) refl not_help some e args
 
 -- a subcommand is wanted
 has_command : (has : Bool) (rows : List Row) → check_fault app.top rows has ≡ [] → has ≡ true

@@ -5,7 +5,7 @@ use Rattle.std.specs.Borrow.{Bor}
 use Rattle.std.specs.List.{list_all}
 use Rattle.clap.specs.Words.{Row, Text}
 use Rattle.clap.specs.Walk.{all_of}
-use Rattle.command.specs.Values.{all_texts, halves_of, has_equals, pairs_of}
+use Rattle.command.specs.Sources.{all_texts, halves_of, has_equals, pairs_of}
 
 all_lent : (texts : List (Bor Text)) → list_all (λ text. has_equals text.now) texts ≡ list_all has_equals (map (λ text. text.now) texts)
 all_lent [] = refl

@@ -4,7 +4,6 @@ pub mod BuildWalk
 pub mod Folders
 pub mod Kept
 pub mod LeafWalk
-pub mod Limits
 pub mod Matched
 pub mod PackWalk
 pub mod Rows

@@ -12,7 +12,7 @@ use Rattle.command.specs.PrivateTasks.{IsAnswer}
 use Rattle.command.specs.Tasks.{IsBuild, IsTaskOf, IsWorkers}
 use Rattle.command.specs.declared.task.BuildOptions.{BuildOptions}
 use Rattle.command.specs.declared.task.Task.{Task}
-use Rattle.command.specs.declared.task.Task.TheVariants.{Build, Graph, Pack, Why, Llb, Config, Images, Check, Explain}
+use Rattle.command.specs.declared.task.Task.TheVariants.{Build, Graph, Pack, Why, Llb, Config, Check, Explain}
 
 pub if_none : {T : Type 0} (answer : Option T) (P : Type 0) → P → IfNone answer P
 if_none None P p = p
@@ -60,7 +60,6 @@ no_build rows none (Pack options) h = absurd (true≢false (ap (λ t. bytes_eq t
 no_build rows none (Why options) h = absurd (true≢false (ap (λ t. bytes_eq t (codes "build")) h.0))
 no_build rows none (Llb options) h = absurd (true≢false (ap (λ t. bytes_eq t (codes "build")) h.0))
 no_build rows none (Config options) h = absurd (true≢false (ap (λ t. bytes_eq t (codes "build")) h.0))
-no_build rows none (Images options) h = absurd (true≢false (ap (λ t. bytes_eq t (codes "build")) h.0))
 no_build rows none (Check options) h = absurd (true≢false (ap (λ t. bytes_eq t (codes "build")) h.0))
 no_build rows none (Explain options) h = absurd (true≢false (ap (λ t. bytes_eq t (codes "build")) h.0))
 

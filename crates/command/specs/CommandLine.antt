@@ -31,13 +31,17 @@ text_option name = record (new_rule name) { long = Some name; value_names = 1 }
 abbrev pub flag : Text → Rule
 flag name = record (new_rule name) { long = Some name; action = Some SetTrue }
 
--- an option that takes a text, any number of times, as `--build-arg N=V` (own)
-abbrev pub repeated_option : Text → Rule
-repeated_option name = record (text_option name) { action = Some Append }
+-- `--build-arg N=V`, any number of times (own)
+abbrev pub argument_option : Rule
+argument_option = record (text_option (codes "build-arg")) { action = Some Append }
+
+-- `--image NAME=FILE`, any number of times (own)
+abbrev pub image_option : Rule
+image_option = record (text_option (codes "image")) { action = Some Append }
 
 -- the options that choose what the bundle of a folder has: `[--file F] [--target T] [--build-arg N=V].. [--image NAME=FILE]..` (own)
 abbrev pub with_choice : App → App
-with_choice app = with_rule (with_rule (with_rule (with_rule app (text_option (codes "file"))) (text_option (codes "target"))) (repeated_option (codes "build-arg"))) (repeated_option (codes "image"))
+with_choice app = with_rule (with_rule (with_rule (with_rule app (text_option (codes "file"))) (text_option (codes "target"))) argument_option) image_option
 
 -- FILE or DIR, which may be left out (own)
 abbrev pub bundle_argument : Rule
@@ -51,13 +55,9 @@ with_source app = with_rule (with_choice app) bundle_argument
 abbrev pub build_command : App
 build_command = with_source (with_rule (new_app (codes "build")) workers_option)
 
--- which images have to be given: `[--any-image] [--need-images]` (own)
-abbrev pub with_need : App → App
-with_need app = with_rule (with_rule app (flag (codes "any-image"))) (flag (codes "need-images"))
-
--- `graph [--dot] [--any-image] [--need-images] [FILE|DIR]` with the options of a folder (own)
+-- `graph [--dot] [FILE|DIR]` with the options of a folder (own)
 abbrev pub graph_command : App
-graph_command = with_source (with_need (with_rule (new_app (codes "graph")) (flag (codes "dot"))))
+graph_command = with_source (with_rule (new_app (codes "graph")) (flag (codes "dot")))
 
 -- DIR, which has to be given (own)
 abbrev pub folder_argument : Rule
@@ -95,54 +95,28 @@ asking_command = with_subcommand (with_subcommand bundle_command pack_command.to
 abbrev pub llb_options : App
 llb_options = with_rule (with_rule (with_rule (new_app (codes "llb")) (text_option (codes "platform"))) (text_option (codes "network"))) (text_option (codes "unique"))
 
--- the same with `[--merge M] [--follow] [--context NAME] [--source-map NAME]` (own)
+-- `llb [--platform P] [--network N] --unique TEXT [--merge M] [--follow]` (own)
 abbrev pub llb_choices : App
-llb_choices = with_rule (with_rule (with_rule (with_rule llb_options (text_option (codes "merge"))) (flag (codes "follow"))) (text_option (codes "context")))
-    (text_option (codes "source-map"))
+llb_choices = with_rule (with_rule llb_options (text_option (codes "merge"))) (flag (codes "follow"))
 
--- the same with what is done anew: `[--no-cache] [--no-cache-filter STAGE]..` (own)
-abbrev pub llb_anew : App
-llb_anew = with_rule (with_rule llb_choices (flag (codes "no-cache"))) (repeated_option (codes "no-cache-filter"))
-
--- what is set of every command: `[--add-host NAME=IP].. [--ulimit NAME=SOFT[:HARD]].. [--shm-size BYTES] [--hostname NAME]` (own)
-abbrev pub with_hosts : App → App
-with_hosts app = with_rule (with_rule (with_rule (with_rule app (repeated_option (codes "add-host"))) (repeated_option (codes "ulimit"))) (text_option (codes "shm-size")))
-    (text_option (codes "hostname"))
-
--- and `[--cgroup-parent NAME] [--proxy NAME=VALUE].. [--remove-mount-stubs]` (own)
-abbrev pub with_settings : App → App
-with_settings app = with_rule (with_rule (with_rule (with_hosts app) (text_option (codes "cgroup-parent"))) (repeated_option (codes "proxy")))
-    (flag (codes "remove-mount-stubs"))
-
--- `llb` with all of these, `[FILE|DIR]` and the options of a folder (own)
+-- `llb [--platform P] [--network N] --unique TEXT [--merge M] [--follow] [FILE|DIR]` with the options of a folder (own)
 abbrev pub llb_command : App
-llb_command = with_source (with_settings llb_anew)
+llb_command = with_source llb_choices
 
--- what an engine is given beside a configuration: `[--for-engine] [--platform P] [--label NAME=VALUE].. [--epoch SECONDS]` (own)
-abbrev pub with_engine : App → App
-with_engine app = with_rule (with_rule (with_rule (with_rule app (flag (codes "for-engine"))) (text_option (codes "platform"))) (repeated_option (codes "label")))
-    (text_option (codes "epoch"))
-
--- `config [--any-image] [--for-engine] [--platform P] [--label NAME=VALUE].. [--epoch SECONDS] [FILE|DIR]` with the options of a folder (own)
+-- `config [FILE|DIR]` with the options of a folder (own)
 abbrev pub config_command : App
-config_command = with_source (with_engine (with_rule (new_app (codes "config")) (flag (codes "any-image"))))
+config_command = with_source (new_app (codes "config"))
 
--- `images [--platform P] [FILE|DIR]` with the options of a folder (own)
-abbrev pub images_command : App
-images_command = with_source (with_rule (new_app (codes "images")) (text_option (codes "platform")))
-
--- `check [--json] [--any-image] [--need-images] [FILE|DIR]` with the options of a folder (own)
+-- `check [--json] [FILE|DIR]` with the options of a folder (own)
 abbrev pub check_command : App
-check_command = with_source (with_need (with_rule (new_app (codes "check")) (flag (codes "json"))))
+check_command = with_source (with_rule (new_app (codes "check")) (flag (codes "json")))
 
 -- `explain [FILE|DIR]` with the options of a folder (own)
 abbrev pub explain_command : App
 explain_command = with_source (new_app (codes "explain"))
 
--- `dfsolve COMMAND` of the commands by which an engine builds too (own)
-abbrev pub engine_command : App
-engine_command = with_subcommand (with_subcommand (with_subcommand asking_command llb_command.top) config_command.top) images_command.top
-
 -- `dfsolve COMMAND` (own)
 abbrev pub whole_command : App
-whole_command = with_subcommand (with_subcommand engine_command check_command.top) explain_command.top
+whole_command = with_subcommand
+    (with_subcommand (with_subcommand (with_subcommand asking_command llb_command.top) config_command.top) check_command.top)
+    explain_command.top

@@ -1,9 +1,6 @@
 pub mod CommandLine
-pub mod Engine
+pub mod Flags
 pub mod Llb
-pub mod Platform
 pub mod PrivateTasks
-pub mod Settings
 pub mod Sources
 pub mod Tasks
-pub mod Values

@@ -1,7 +1,7 @@
 ghost use Rattle.std.specs.Prelude.{◌≡◌, IfOk, IsOkAnd, false};
 ghost use Rattle.clap.specs.Words.{App, Rule, app_of, new_app, rule_of, with_rule, with_subcommand};
 ghost use Rattle.clap.specs.declared.builder.command.Command.TheViews.{out-Command};
-ghost use Rattle.command.specs.CommandLine.{asking_command, bare_command, build_command, bundle_argument, bundle_command, check_command, config_command, engine_command, explain_command, flag, folder_argument, graph_command, images_command, llb_anew, llb_choices, llb_command, llb_options, pack_command, pack_to, paths_argument, repeated_option, text_option, whole_command, why_command, with_choice, with_engine, with_hosts, with_need, with_settings, with_source, workers_option};
+ghost use Rattle.command.specs.CommandLine.{argument_option, asking_command, bare_command, build_command, bundle_argument, bundle_command, check_command, config_command, explain_command, flag, folder_argument, graph_command, image_option, llb_choices, llb_command, llb_options, pack_command, pack_to, paths_argument, text_option, whole_command, why_command, with_choice, with_source, workers_option};
 
 use clap::{Arg, ArgAction, Command, value_parser};
 use plain::limits::MOST_WORKERS;
@@ -47,22 +47,9 @@ pub const PATH: &str = "PATH";
 /// The flag of `check` that asks for lines of JSON.
 pub const JSON: &str = "json";
 
-/// The flags of `check` and `graph` that say which images have to be given. `config` has the first.
-pub const ANY_IMAGE: &str = "any-image";
-
-pub const NEED_IMAGES: &str = "need-images";
-
-/// The options of `config` for an engine.
-pub const FOR_ENGINE: &str = "for-engine";
-
-pub const LABEL: &str = "label";
-
-pub const EPOCH: &str = "epoch";
-
-/// The option of `llb`, `images` and `config`.
+/// The options of `llb`.
 pub const PLATFORM: &str = "platform";
 
-/// The options of `llb`.
 pub const NETWORK: &str = "network";
 
 pub const UNIQUE: &str = "unique";
@@ -70,29 +57,6 @@ pub const UNIQUE: &str = "unique";
 pub const MERGE: &str = "merge";
 
 pub const FOLLOW: &str = "follow";
-
-pub const CONTEXT: &str = "context";
-
-pub const SOURCE_MAP: &str = "source-map";
-
-pub const NO_CACHE: &str = "no-cache";
-
-pub const NO_CACHE_FILTER: &str = "no-cache-filter";
-
-/// The options of `llb` for every command.
-pub const ADD_HOST: &str = "add-host";
-
-pub const ULIMIT: &str = "ulimit";
-
-pub const SHM_SIZE: &str = "shm-size";
-
-pub const HOSTNAME: &str = "hostname";
-
-pub const CGROUP_PARENT: &str = "cgroup-parent";
-
-pub const PROXY: &str = "proxy";
-
-pub const REMOVE_MOUNT_STUBS: &str = "remove-mount-stubs";
 
 /// The platform of words that name none.
 pub const DEFAULT_PLATFORM: &str = "linux/amd64";
@@ -102,9 +66,6 @@ pub const DEFAULT_NETWORK: &str = "default";
 
 /// What a merge is by words that don't say it.
 pub const DEFAULT_MERGE: &str = "native";
-
-/// The client's folder of words that name none.
-pub const DEFAULT_CONTEXT: &str = "context";
 
 /// What stands at the end of each command's help: its statuses and an example.
 const BUILD_HELP: &str =
@@ -125,9 +86,6 @@ const LLB_HELP: &str =
 const CONFIG_HELP: &str =
     "Status: 0 if the configuration was printed, 2 if the bundle or the command line is refused, 3 if there was no memory or a device failed.\nExample: dfsolve config .";
 
-const IMAGES_HELP: &str =
-    "Status: 0 if the images were printed, 2 if the bundle or the command line is refused, 3 if there was no memory or a device failed.\nExample: dfsolve images . --platform linux/arm64";
-
 const CHECK_HELP: &str =
     "Status: 0 if there is no fault, 1 if there is one, 2 if the command line is refused, 3 if there was no memory or a device failed.\nExample: dfsolve check .";
 
@@ -141,17 +99,10 @@ const VERSION: &str = "0.1.0";
 pub fn whole_command<'a>(alloc: Global) -> Result<Command<'a>, AllocError>
     ensures { IfOk result (λ command. app_of command ≡ whole_command) }
 {
-    let command = with_command(engine_command(alloc), check_command(alloc));
-    with_command(command, explain_command(alloc))
-}
-
-/// `dfsolve COMMAND` with the commands by which an engine builds too.
-fn engine_command<'a>(alloc: Global) -> Result<Command<'a>, AllocError>
-    ensures { IfOk result (λ command. app_of command ≡ engine_command) }
-{
     let command = with_command(asking_command(alloc), llb_command(alloc));
     let command = with_command(command, config_command(alloc));
-    with_command(command, images_command(alloc))
+    let command = with_command(command, check_command(alloc));
+    with_command(command, explain_command(alloc))
 }
 
 /// `dfsolve COMMAND` with the commands that have to do with no engine but the program's own.
@@ -266,20 +217,8 @@ fn with_choice<'a>(
     let target = text_option(alloc, TARGET, "STAGE", "The stage to build, of a folder");
     let command = with_argument(command, file);
     let command = with_argument(command, target);
-    let arguments = repeated_option(
-        alloc,
-        BUILD_ARGUMENT,
-        "NAME=VALUE",
-        "A build argument; may be given again",
-    );
-    let images = repeated_option(
-        alloc,
-        IMAGE,
-        "NAME=FILE",
-        "An image and the file that holds it; may be given again",
-    );
-    let command = with_argument(command, arguments);
-    with_argument(command, images)
+    let command = with_argument(command, argument_option(alloc));
+    with_argument(command, image_option(alloc))
 }
 
 /// The command with what a bundle is taken from: the options of a folder, and `[FILE|DIR]`.
@@ -295,25 +234,6 @@ fn with_source<'a>(
     with_argument(command, bundle_argument(alloc))
 }
 
-/// The command with the flags that say which images have to be given.
-fn with_need<'a>(
-    alloc: Global,
-    command: Result<Command<'a>, AllocError>,
-) -> Result<Command<'a>, AllocError>
-    ensures app { (app : App) → IfOk command.entry (λ command. app_of command ≡ app) → IfOk result (λ whole. app_of whole ≡ with_need app) }
-    ensures local { IfOk command.entry (λ command. (out-Command command).has_globals ≡ false)
-        → IfOk result (λ whole. (out-Command whole).has_globals ≡ false) }
-{
-    let any = flag(
-        alloc,
-        ANY_IMAGE,
-        "Go on without images that aren't given, as if they were empty; a folder's always are",
-    );
-    let all = flag(alloc, NEED_IMAGES, "Ask for each image, of a folder too");
-    let command = with_argument(command, any);
-    with_argument(command, all)
-}
-
 /// `build [--workers N] [FILE|DIR]` with the options of a folder.
 fn build_command<'a>(alloc: Global) -> Result<Command<'a>, AllocError>
     ensures app { IfOk result (λ command. app_of command ≡ build_command) }
@@ -325,7 +245,7 @@ fn build_command<'a>(alloc: Global) -> Result<Command<'a>, AllocError>
     with_source(alloc, command)
 }
 
-/// `graph [--dot] [--any-image] [--need-images] [FILE|DIR]` with the options of a folder.
+/// `graph [--dot] [FILE|DIR]` with the options of a folder.
 fn graph_command<'a>(alloc: Global) -> Result<Command<'a>, AllocError>
     ensures app { IfOk result (λ command. app_of command ≡ graph_command) }
     ensures local { IfOk result (λ command. (out-Command command).has_globals ≡ false) }
@@ -334,7 +254,6 @@ fn graph_command<'a>(alloc: Global) -> Result<Command<'a>, AllocError>
     let command = described(alloc, "graph", about, GRAPH_HELP);
     let dot = "Print it in the DOT language of Graphviz, with the instructions and their lines";
     let command = with_argument(Ok(command), flag(alloc, DOT, dot));
-    let command = with_need(alloc, command);
     with_source(alloc, command)
 }
 
@@ -387,101 +306,15 @@ fn why_command<'a>(alloc: Global) -> Result<Command<'a>, AllocError>
     with_argument(command, paths_argument(alloc))
 }
 
-/// `llb` with all its options, `[FILE|DIR]` and the options of a folder.
+/// `llb [--platform P] [--network N] --unique TEXT [--merge M] [--follow] [FILE|DIR]` with the options of a folder.
 fn llb_command<'a>(alloc: Global) -> Result<Command<'a>, AllocError>
     ensures app { IfOk result (λ command. app_of command ≡ llb_command) }
     ensures local { IfOk result (λ command. (out-Command command).has_globals ≡ false) }
 {
-    let command = with_settings(alloc, llb_anew(alloc));
-    with_source(alloc, command)
+    with_source(alloc, llb_choices(alloc))
 }
 
-/// The command with what is set of every command of a build.
-fn with_settings<'a>(
-    alloc: Global,
-    command: Result<Command<'a>, AllocError>,
-) -> Result<Command<'a>, AllocError>
-    ensures app { (app : App) → IfOk command.entry (λ command. app_of command ≡ app) → IfOk result (λ whole. app_of whole ≡ with_settings app) }
-    ensures local { IfOk command.entry (λ command. (out-Command command).has_globals ≡ false)
-        → IfOk result (λ whole. (out-Command whole).has_globals ≡ false) }
-{
-    let parent = text_option(
-        alloc,
-        CGROUP_PARENT,
-        "NAME",
-        "The control group that those of commands stand in",
-    );
-    let proxies = repeated_option(
-        alloc,
-        PROXY,
-        "NAME=VALUE",
-        "A proxy of all commands: http_proxy, https_proxy, ftp_proxy, no_proxy or all_proxy; may be given again",
-    );
-    let stubs = flag(
-        alloc,
-        REMOVE_MOUNT_STUBS,
-        "Remove the empty files and folders that the engine makes for mounts",
-    );
-    let command = with_argument(with_hosts(alloc, command), parent);
-    let command = with_argument(command, proxies);
-    with_argument(command, stubs)
-}
-
-/// The command with the hosts and the limits of every command of a build.
-fn with_hosts<'a>(
-    alloc: Global,
-    command: Result<Command<'a>, AllocError>,
-) -> Result<Command<'a>, AllocError>
-    ensures app { (app : App) → IfOk command.entry (λ command. app_of command ≡ app) → IfOk result (λ whole. app_of whole ≡ with_hosts app) }
-    ensures local { IfOk command.entry (λ command. (out-Command command).has_globals ≡ false)
-        → IfOk result (λ whole. (out-Command whole).has_globals ≡ false) }
-{
-    let hosts = repeated_option(
-        alloc,
-        ADD_HOST,
-        "NAME=IP",
-        "A host that all commands know; may be given again",
-    );
-    let limits = repeated_option(
-        alloc,
-        ULIMIT,
-        "NAME=SOFT[:HARD]",
-        "A limit of all commands, as nofile=1024; may be given again",
-    );
-    let size = text_option(
-        alloc,
-        SHM_SIZE,
-        "BYTES",
-        "The size of /dev/shm of all commands",
-    );
-    let hostname = text_option(alloc, HOSTNAME, "NAME", "The host name of all commands");
-    let command = with_argument(command, hosts);
-    let command = with_argument(command, limits);
-    let command = with_argument(command, size);
-    with_argument(command, hostname)
-}
-
-/// `llb` with what it has of its own but what is set of commands.
-fn llb_anew<'a>(alloc: Global) -> Result<Command<'a>, AllocError>
-    ensures app { IfOk result (λ command. app_of command ≡ llb_anew) }
-    ensures local { IfOk result (λ command. (out-Command command).has_globals ≡ false) }
-{
-    let everything = flag(
-        alloc,
-        NO_CACHE,
-        "Do all steps anew, whatever the engine's cache has",
-    );
-    let stages = repeated_option(
-        alloc,
-        NO_CACHE_FILTER,
-        "STAGE",
-        "Do the steps of this stage anew; may be given again",
-    );
-    let command = with_argument(llb_choices(alloc), everything);
-    with_argument(command, stages)
-}
-
-/// `llb [--platform P] [--network N] --unique TEXT [--merge M] [--follow] [--context NAME] [--source-map NAME]`.
+/// `llb [--platform P] [--network N] --unique TEXT [--merge M] [--follow]`.
 fn llb_choices<'a>(alloc: Global) -> Result<Command<'a>, AllocError>
     ensures app { IfOk result (λ command. app_of command ≡ llb_choices) }
     ensures local { IfOk result (λ command. (out-Command command).has_globals ≡ false) }
@@ -497,22 +330,8 @@ fn llb_choices<'a>(alloc: Global) -> Result<Command<'a>, AllocError>
         FOLLOW,
         "Ask for only the paths of the context that the graph names",
     );
-    let context = text_option(
-        alloc,
-        CONTEXT,
-        "NAME",
-        "The name of the client's folder [default: context]",
-    );
-    let map = text_option(
-        alloc,
-        SOURCE_MAP,
-        "NAME",
-        "Let the engine show the lines of a failed step, of the Dockerfile under this name",
-    );
     let command = with_argument(llb_options(alloc), merge);
-    let command = with_argument(command, follow);
-    let command = with_argument(command, context);
-    with_argument(command, map)
+    with_argument(command, follow)
 }
 
 /// `llb [--platform P] [--network N] --unique TEXT`.
@@ -545,79 +364,17 @@ fn llb_options<'a>(alloc: Global) -> Result<Command<'a>, AllocError>
     with_argument(command, unique)
 }
 
-/// `config [--any-image] [--for-engine] [--platform P] [--label NAME=VALUE].. [--epoch SECONDS] [FILE|DIR]` with the options of a folder.
+/// `config [FILE|DIR]` with the options of a folder.
 fn config_command<'a>(alloc: Global) -> Result<Command<'a>, AllocError>
     ensures app { IfOk result (λ command. app_of command ≡ config_command) }
     ensures local { IfOk result (λ command. (out-Command command).has_globals ≡ false) }
 {
     let about = "Prints the configuration of the target of a bundle or a folder, without a build";
     let command = described(alloc, "config", about, CONFIG_HELP);
-    let any = flag(
-        alloc,
-        ANY_IMAGE,
-        "Go on without images that aren't given, as if they were empty",
-    );
-    let command = with_argument(Ok(command), any);
-    let command = with_engine(alloc, command);
-    with_source(alloc, command)
+    with_source(alloc, Ok(command))
 }
 
-/// The command with what an engine is given beside a configuration.
-fn with_engine<'a>(
-    alloc: Global,
-    command: Result<Command<'a>, AllocError>,
-) -> Result<Command<'a>, AllocError>
-    ensures app { (app : App) → IfOk command.entry (λ command. app_of command ≡ app) → IfOk result (λ whole. app_of whole ≡ with_engine app) }
-    ensures local { IfOk command.entry (λ command. (out-Command command).has_globals ≡ false)
-        → IfOk result (λ whole. (out-Command whole).has_globals ≡ false) }
-{
-    let engine = flag(
-        alloc,
-        FOR_ENGINE,
-        "Print it as an engine is given it: with history, and what BuildKit adds",
-    );
-    let platform = text_option(
-        alloc,
-        PLATFORM,
-        "OS/ARCH",
-        "The platform of the image, for an engine; without it that of the base",
-    );
-    let labels = repeated_option(
-        alloc,
-        LABEL,
-        "NAME=VALUE",
-        "A label of the image, for an engine; may be given again",
-    );
-    let epoch = text_option(
-        alloc,
-        EPOCH,
-        "SECONDS",
-        "When the image was created, in seconds since 1970, for an engine",
-    );
-    let command = with_argument(command, engine);
-    let command = with_argument(command, platform);
-    let command = with_argument(command, labels);
-    with_argument(command, epoch)
-}
-
-/// `images [--platform P] [FILE|DIR]` with the options of a folder.
-fn images_command<'a>(alloc: Global) -> Result<Command<'a>, AllocError>
-    ensures app { IfOk result (λ command. app_of command ≡ images_command) }
-    ensures local { IfOk result (λ command. (out-Command command).has_globals ≡ false) }
-{
-    let about = "Prints which images the stages of a bundle or a folder name, as lines of JSON";
-    let command = described(alloc, "images", about, IMAGES_HELP);
-    let platform = text_option(
-        alloc,
-        PLATFORM,
-        "OS/ARCH",
-        "What images are taken of [default: linux/amd64]",
-    );
-    let command = with_argument(Ok(command), platform);
-    with_source(alloc, command)
-}
-
-/// `check [--json] [--any-image] [--need-images] [FILE|DIR]` with the options of a folder.
+/// `check [--json] [FILE|DIR]` with the options of a folder.
 fn check_command<'a>(alloc: Global) -> Result<Command<'a>, AllocError>
     ensures app { IfOk result (λ command. app_of command ≡ check_command) }
     ensures local { IfOk result (λ command. (out-Command command).has_globals ≡ false) }
@@ -626,7 +383,6 @@ fn check_command<'a>(alloc: Global) -> Result<Command<'a>, AllocError>
     let command = described(alloc, "check", about, CHECK_HELP);
     let json = flag(alloc, JSON, "Print each fault as a line of JSON");
     let command = with_argument(Ok(command), json);
-    let command = with_need(alloc, command);
     with_source(alloc, command)
 }
 
@@ -683,12 +439,32 @@ fn text_option<'a>(alloc: Global, name: &'a str, value: &'a str, help: &'a str) 
         .help(help)
 }
 
-/// An option that takes a text, any number of times.
-fn repeated_option<'a>(alloc: Global, name: &'a str, value: &'a str, help: &'a str) -> Arg<'a>
-    ensures rule { rule_of result ≡ repeated_option name.now }
+/// `--build-arg N=V`, any number of times.
+fn argument_option<'a>(alloc: Global) -> Arg<'a>
+    ensures rule { rule_of result ≡ argument_option }
     ensures local { result.global ≡ false }
 {
-    text_option(alloc, name, value, help).action(ArgAction::Append)
+    text_option(
+        alloc,
+        BUILD_ARGUMENT,
+        "NAME=VALUE",
+        "A build argument; may be given again",
+    )
+    .action(ArgAction::Append)
+}
+
+/// `--image NAME=FILE`, any number of times.
+fn image_option<'a>(alloc: Global) -> Arg<'a>
+    ensures rule { rule_of result ≡ image_option }
+    ensures local { result.global ≡ false }
+{
+    text_option(
+        alloc,
+        IMAGE,
+        "NAME=FILE",
+        "An image and the file that holds it; may be given again",
+    )
+    .action(ArgAction::Append)
 }
 
 /// `--NAME`, a flag.

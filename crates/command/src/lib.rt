@@ -16,18 +16,12 @@
 #![tactic(auto)]
 
 mod commands;
-mod engine;
 mod llb;
-mod platform;
 mod reading;
-mod refusing;
-mod settings;
 mod task;
-mod values;
 
 pub use reading::read_command;
 pub use task::{
-    Anew, BuildOptions, CheckOptions, Choice, CommandSettings, ConfigOptions, EngineOptions,
-    GraphOptions, ImageNeed, ImagesOptions, LlbOptions, MergeName, NetworkName, PackOptions,
-    PlatformName, Proxies, ResourceLimit, Source, Task, WhyOptions,
+    BuildOptions, CheckOptions, Choice, GraphOptions, LlbOptions, MergeName, NetworkName,
+    PackOptions, PlatformName, Source, Task, WhyOptions,
 };

@@ -1,59 +1,45 @@
-// The task that words ask for: from clap's parse of them to a task or a refusal.
-ghost use Rattle.std.specs.Prelude.{◌≡◌, [], ◌∷◌, ℕ, IfOk, IfSome, IfNone, codes, map};
-ghost use Rattle.clap.specs.Words.{FailsBy, HasKind, found_of, rows_of, subcommand_of, subcommand_rows_of};
+ghost use Rattle.std.specs.Prelude.{◌≡◌, [], ◌∷◌, ℕ, IfOk, IfSome, IfNone, codes, map, option_map};
+ghost use Rattle.std.specs.List.{list_all};
+ghost use Rattle.clap.specs.Walk.{all_of};
+ghost use Rattle.clap.specs.Words.{FailsBy, HasKind, first_of, found_of, rows_of, subcommand_of, subcommand_rows_of};
 ghost use Rattle.clap.specs.declared.error.kind.ErrorKind.TheVariants.{ValueValidation};
 ghost use Rattle.command.specs.CommandLine.{whole_command};
+ghost use Rattle.command.specs.Flags.{is_set};
 ghost use Rattle.command.specs.PrivateTasks.{IsAnswer};
-ghost use Rattle.command.specs.Sources.{choice_of, source_of, source_with};
-ghost use Rattle.command.specs.Tasks.{IsTaskOf, IsWorkers, faults_of, need_of, pack_of};
+ghost use Rattle.command.specs.Sources.{choice_of, halves_of, has_equals, pairs_of, source_of, source_with};
+ghost use Rattle.command.specs.Tasks.{IsTaskOf, IsWorkers, faults_of, pack_of, paths_of};
 ghost use Rattle.command.specs.declared.task.Task.{Task};
 
 use crate::commands::{
-    ANY_IMAGE, APPLY_IGNORE, BUILD_ARGUMENT, BUNDLE, BUNDLE_FILE, DOT, FILE, FOLDER, IMAGE, JSON,
-    LEAST_WORKERS, NAMES, NEED_IMAGES, OUTPUT, PATH, TARGET, whole_command,
+    APPLY_IGNORE, BUILD_ARGUMENT, BUNDLE, BUNDLE_FILE, DOT, FILE, FOLDER, IMAGE, JSON,
+    LEAST_WORKERS, NAMES, OUTPUT, PATH, TARGET, whole_command,
 };
-use crate::engine::config_of;
-use crate::llb::llb_of;
-use crate::platform::platform_of;
-use crate::refusing::wrong_argument;
-use crate::values::{all_texts, is_set, pairs_of, text_of};
+use crate::llb::{llb_of, wrong_choice};
 use crate::{
-    BuildOptions, CheckOptions, Choice, GraphOptions, ImageNeed, ImagesOptions, PackOptions,
-    Source, Task, WhyOptions,
+    BuildOptions, CheckOptions, Choice, GraphOptions, PackOptions, Source, Task, WhyOptions,
 };
 use clap::error::ErrorKind;
 use clap::{ArgMatches, Error};
-use plain::Text;
 use plain::limits::MOST_WORKERS;
+use plain::{Items, Text};
 use std::alloc::{AllocError, Global};
 
 /// The task that the words ask for: those after the program's name, which `env::args` gives first.
 ///
-/// Every command but `pack` takes a bundle from a file or a folder that a word FILE names, or with `why` `--bundle FILE`,
-/// or from standard input where there is none. It has `--file F` and `--target T` once at most, and `--build-arg N=V` and
-/// `--image NAME=FILE` any number of times, each of which has a `=`. These choose of a folder, so none of them stands
-/// beside standard input. The other options of each command follow; each is given once at most but those with `..`.
-///
-/// - `build`: `--workers N`, where N is decimal digits, of which a `+` may stand in front, from 1 to 64; the default is 4.
-/// - `graph` and `check`: `--any-image` and `--need-images`, but not both; and `--dot` of the one, `--json` of the other.
-/// - `why`: a word PATH once or more.
-/// - `pack`: a word DIR, `--output FILE`, `--apply-ignore` and `--names`.
-/// - `images`: `--platform P`, which is `OS/ARCH` or `OS/ARCH/VARIANT`, and `linux/amd64` by default.
-/// - `config`: `--any-image` and `--for-engine`; beside that flag alone `--platform P`, `--label NAME=VALUE`.. with a NAME,
-///   and `--epoch SECONDS`, a time before the year 10,000.
-/// - `llb`: `--unique TEXT`, which has to be given. `--platform P`; `--network N`, which is `default`, `none` or `host`;
-///   `--merge M`, which is `native` or `chain`; `--follow`; `--no-cache`, or `--no-cache-filter STAGE`..; `--add-host
-///   NAME=IP`.., where IP is hexadecimal digits, `.` and `:`; `--ulimit NAME=SOFT[:HARD]`.., where NAME is a resource of
-///   docker's and SOFT no more than HARD, and -1 has no end; `--shm-size BYTES` from 1; `--hostname NAME`,
-///   `--cgroup-parent NAME`, `--context NAME` and `--source-map NAME`; `--proxy NAME=VALUE`.., where NAME is one of five;
-///   and `--remove-mount-stubs`. No text of these is empty but the VALUE of a proxy.
-///
-/// Numbers are decimal digits, below 2^63.
-/// `help` alone or before the name of a command, `--help` and `-h`, before a command or after it, ask for help, and
-/// `--version` or `-V` before it for the program's name and version.
+/// Every command but `pack` takes a bundle from a file or a folder that a word FILE names, or with `why` `--bundle FILE`, or from standard input where
+/// there is none. It has `--file F` and `--target T` once at most, and `--build-arg N=V` and `--image NAME=FILE` any number of times, each of which
+/// has a `=`. These choose of a folder, so none of them stands beside standard input.
+/// `build` has `--workers N` or `--workers=N` once at most; N is decimal digits, of which a `+` may stand in front, and its value is 1 to 64; the
+/// default is 4. `graph` has `--dot` and `check` has `--json`, each once at most. `why` has a word PATH once or more.
+/// `llb` has `--unique TEXT` just once, and `--platform P`, `--network N`, `--merge M` and `--follow` once at most; TEXT isn't empty; P is `OS/ARCH` or
+/// `OS/ARCH/VARIANT`, and `linux/amd64` by default; N is `default`, `none` or `host`, and M is `native` or `chain`, and the first of these by default.
+/// `pack` has a word DIR, the options that choose of a folder, and `--output FILE`, `--apply-ignore` and `--names` once at most.
+/// `help` alone or before the name of a command, `--help` and `-h`, before a command or after it, ask for help, and `--version` or `-V`
+/// before it for the program's name and version.
 ///
 /// An error is clap's, and its kind tells what it is: help or the version that was asked for, which are no faults; a fault of the words;
-/// or want of memory. The text that it prints is clap's where clap finds the fault; of what the words say that can't be so, it says what helps.
+/// or want of memory. The text that it prints is clap's, except of a build argument or an image without a `=`, of what is chosen beside standard
+/// input, and of the options of `llb`, of which it says what is wrong.
 pub fn read_command<'a>(alloc: Global, words: &'a [&'a str]) -> Result<Task, Error>
     ensures task { IfOk result
         (IsTaskOf (subcommand_of whole_command (map (λ word. word.now) words.entry.now))) }
@@ -102,6 +88,55 @@ fn refusal(alloc: Global, text: &str) -> Result<Error, AllocError>
     error
 }
 
+/// What is said of matches that ask for no task.
+fn wrong_argument(alloc: Global, matches: &ArgMatches) -> Result<String, AllocError> {
+    let Some((name, found)) = matches.subcommand() else {
+        return String::from_str(alloc, "");
+    };
+    if let Some(text) = bare_text(found, BUILD_ARGUMENT) {
+        return format!(in alloc; "a value of --build-arg is NAME=VALUE, and '{text}' has no '='");
+    }
+    if let Some(text) = bare_text(found, IMAGE) {
+        return format!(in alloc; "a value of --image is NAME=FILE, and '{text}' has no '='");
+    }
+    match misplaced_choice(alloc, name, found)? {
+        Some(text) => String::from_str(alloc, text),
+        None => wrong_choice(alloc, found),
+    }
+}
+
+/// What is wrong with what is chosen beside a bundle on standard input.
+fn misplaced_choice(
+    alloc: Global,
+    name: &str,
+    matches: &ArgMatches,
+) -> Result<Option<&'static str>, AllocError> {
+    let place = if name == "why" { BUNDLE_FILE } else { BUNDLE };
+    if matches.get_str(place).is_some() {
+        return Ok(None);
+    }
+    match choice_of(alloc, matches)? {
+        Some(choice) => {
+            let text = choice.misplaced();
+            drop(choice);
+            Ok(text)
+        }
+        None => Ok(None),
+    }
+}
+
+/// The first text of an option that has no `=`.
+fn bare_text<'m, 'a>(matches: &'m ArgMatches<'a>, id: &str) -> Option<&'a str> {
+    if let Some(texts) = texts_of(matches, id) {
+        for text in texts {
+            if text.split_once('=').is_none() {
+                return Some(*text);
+            }
+        }
+    }
+    None
+}
+
 /// The task that a parse found.
 fn task_of(alloc: Global, matches: &ArgMatches) -> Result<Option<Task>, AllocError>
     ensures some { IfOk result (λ found. IfSome found (IsTaskOf (subcommand_rows_of matches.now))) }
@@ -124,7 +159,6 @@ fn named_task(alloc: Global, name: &str, matches: &ArgMatches) -> Result<Option<
         "why" => why_task(alloc, matches),
         "llb" => llb_task(alloc, matches),
         "config" => config_task(alloc, matches),
-        "images" => images_task(alloc, matches),
         "check" => check_task(alloc, matches),
         "explain" => explain_task(alloc, matches),
         _ => Ok(None),
@@ -144,19 +178,15 @@ fn build_task(alloc: Global, matches: &ArgMatches) -> Result<Option<Task>, Alloc
     Ok(Some(Task::Build(BuildOptions { workers, source })))
 }
 
-/// What the matches of `graph` ask for; `None` where they hold nothing that a bundle can be taken from, or both flags of images.
+/// What the matches of `graph` ask for; `None` where they hold nothing that a bundle can be taken from.
 fn graph_task(alloc: Global, matches: &ArgMatches) -> Result<Option<Task>, AllocError>
     ensures { IfOk result (IsAnswer (codes "graph", rows_of (found_of matches.now))) }
 {
-    let Some(images) = need_of(matches) else {
-        return Ok(None);
-    };
     let Some(source) = source_of(alloc, matches, BUNDLE)? else {
         return Ok(None);
     };
     Ok(Some(Task::Graph(GraphOptions {
         source,
-        images,
         dot: is_set(matches, DOT),
     })))
 }
@@ -178,7 +208,7 @@ fn why_task(alloc: Global, matches: &ArgMatches) -> Result<Option<Task>, AllocEr
     let Some(source) = source_of(alloc, matches, BUNDLE_FILE)? else {
         return Ok(None);
     };
-    let paths = all_texts(alloc, matches, PATH)?;
+    let paths = paths_of(alloc, matches)?;
     Ok(Some(Task::Why(WhyOptions { source, paths })))
 }
 
@@ -192,42 +222,25 @@ fn llb_task(alloc: Global, matches: &ArgMatches) -> Result<Option<Task>, AllocEr
     }
 }
 
-/// What the matches of `config` ask for; `None` where they ask for nothing.
+/// What the matches of `config` ask for; `None` where they hold nothing that a bundle can be taken from.
 fn config_task(alloc: Global, matches: &ArgMatches) -> Result<Option<Task>, AllocError>
     ensures { IfOk result (IsAnswer (codes "config", rows_of (found_of matches.now))) }
 {
-    match config_of(alloc, matches)? {
-        Some(options) => Ok(Some(Task::Config(options))),
+    match source_of(alloc, matches, BUNDLE)? {
+        Some(source) => Ok(Some(Task::Config(source))),
         None => Ok(None),
     }
 }
 
-/// What the matches of `images` ask for; `None` where they hold no platform, or nothing that a bundle can be taken from.
-fn images_task(alloc: Global, matches: &ArgMatches) -> Result<Option<Task>, AllocError>
-    ensures { IfOk result (IsAnswer (codes "images", rows_of (found_of matches.now))) }
-{
-    let Some(platform) = platform_of(alloc, matches)? else {
-        return Ok(None);
-    };
-    let Some(source) = source_of(alloc, matches, BUNDLE)? else {
-        return Ok(None);
-    };
-    Ok(Some(Task::Images(ImagesOptions { source, platform })))
-}
-
-/// What the matches of `check` ask for; `None` where they hold nothing that a bundle can be taken from, or both flags of images.
+/// What the matches of `check` ask for; `None` where they hold nothing that a bundle can be taken from.
 fn check_task(alloc: Global, matches: &ArgMatches) -> Result<Option<Task>, AllocError>
     ensures { IfOk result (IsAnswer (codes "check", rows_of (found_of matches.now))) }
 {
-    let Some(images) = need_of(matches) else {
-        return Ok(None);
-    };
     let Some(source) = source_of(alloc, matches, BUNDLE)? else {
         return Ok(None);
     };
     Ok(Some(Task::Check(CheckOptions {
         source,
-        images,
         json: is_set(matches, JSON),
     })))
 }
@@ -288,7 +301,7 @@ fn source_with(place: Option<Text>, choice: Choice) -> Option<Source>
 }
 
 /// What is chosen of a folder by the matches; `None` where a build argument or an image has no `=`.
-pub(crate) fn choice_of(alloc: Global, matches: &ArgMatches) -> Result<Option<Choice>, AllocError>
+fn choice_of(alloc: Global, matches: &ArgMatches) -> Result<Option<Choice>, AllocError>
     ensures { IfOk result (λ choice. choice ≡ choice_of (rows_of (found_of matches.now))) }
 {
     let Some(args) = pairs_of(alloc, matches, BUILD_ARGUMENT)? else {
@@ -305,16 +318,106 @@ pub(crate) fn choice_of(alloc: Global, matches: &ArgMatches) -> Result<Option<Ch
     }))
 }
 
-/// Which images have to be given by the matches; `None` where one flag asks for none and another for all.
-fn need_of(matches: &ArgMatches) -> Option<ImageNeed>
-    ensures { result ≡ need_of (rows_of (found_of matches.now)) }
+/// The text that the matches hold for an id.
+pub(crate) fn text_of(
+    alloc: Global,
+    matches: &ArgMatches,
+    id: &str,
+) -> Result<Option<Text>, AllocError>
+    ensures { IfOk result (λ text. text ≡ first_of id.now (rows_of (found_of matches.now))) }
 {
-    match (is_set(matches, ANY_IMAGE), is_set(matches, NEED_IMAGES)) {
-        (true, true) => None,
-        (true, false) => Some(ImageNeed::Any),
-        (false, true) => Some(ImageNeed::All),
-        (false, false) => Some(ImageNeed::Usual),
+    match matches.get_str(id) {
+        Some(text) => Ok(Some(Text::from_string(String::from_str(alloc, text)?))),
+        None => Ok(None),
     }
+}
+
+/// Whether the matches hold a flag of this id that is given.
+pub(crate) fn is_set(matches: &ArgMatches, id: &str) -> bool
+    ensures { result ≡ is_set id.now (rows_of (found_of matches.now)) }
+{
+    match matches.get_str(id) {
+        Some(text) => text == "true",
+        None => false,
+    }
+}
+
+/// The texts that the matches hold for an id.
+fn texts_of<'m, 'a>(matches: &'m ArgMatches<'a>, id: &str) -> Option<&'m [&'a str]>
+    ensures { option_map (λ texts. map (λ text. text.now) texts.now) result ≡ all_of id.now (rows_of (found_of matches.now)) }
+{
+    matches.get_raw(id)
+}
+
+/// The paths that the matches of `why` hold.
+fn paths_of(alloc: Global, matches: &ArgMatches) -> Result<Items<Text>, AllocError>
+    ensures { IfOk result (λ paths. paths ≡ paths_of (rows_of (found_of matches.now))) }
+{
+    match texts_of(matches, PATH) {
+        Some(texts) => copy_texts(alloc, texts),
+        None => Ok(Items::new(alloc)),
+    }
+}
+
+/// A copy of each text.
+fn copy_texts(alloc: Global, texts: &[&str]) -> Result<Items<Text>, AllocError>
+    ensures { IfOk result (λ copies. copies ≡ map (λ text. text.now) texts.now) }
+{
+    let mut copies = Vec::new(alloc);
+    for text in texts {
+        copies.push(Text::from_string(String::from_str(alloc, text)?))?;
+    }
+    Ok(Items::from_vec(copies))
+}
+
+/// The texts `N=V` that the matches hold for an id, each cut in its halves; `None` where one of them has no `=`.
+fn pairs_of(
+    alloc: Global,
+    matches: &ArgMatches,
+    id: &str,
+) -> Result<Option<Items<(Text, Text)>>, AllocError>
+    ensures { IfOk result (λ pairs. pairs ≡ pairs_of id.now (rows_of (found_of matches.now))) }
+{
+    let Some(texts) = texts_of(matches, id) else {
+        return Ok(Some(Items::new(alloc)));
+    };
+    if !have_equals(texts) {
+        return Ok(None);
+    }
+    Ok(Some(cut_texts(alloc, texts)?))
+}
+
+/// Whether each text has a `=`.
+fn have_equals(texts: &[&str]) -> bool
+    ensures { result ≡ list_all (λ text. has_equals text.now) texts.now }
+{
+    for text in texts {
+        if text.split_once('=').is_none() {
+            return false;
+        }
+    }
+    true
+}
+
+/// Texts, each cut at its first `=`.
+fn cut_texts(alloc: Global, texts: &[&str]) -> Result<Items<(Text, Text)>, AllocError>
+    ensures { IfOk result (λ pairs. pairs ≡ map (λ text. halves_of text.now) texts.now) }
+{
+    let mut pairs = Vec::new(alloc);
+    for text in texts {
+        pairs.push(cut_text(alloc, text)?)?;
+    }
+    Ok(Items::from_vec(pairs))
+}
+
+/// A text, cut at its first `=`.
+fn cut_text(alloc: Global, text: &str) -> Result<(Text, Text), AllocError>
+    ensures { IfOk result (λ pair. pair ≡ halves_of text.now) }
+{
+    let (first, second) = text.split_once('=').unwrap_or((text, ""));
+    let first = String::from_str(alloc, first)?;
+    let second = String::from_str(alloc, second)?;
+    Ok((Text::from_string(first), Text::from_string(second)))
 }
 
 /// The number of workers that the matches of `build` hold.

@@ -51,7 +51,7 @@ pub fn explain<E: Executor>(
     requires { (0 < workers) × (workers ≤ most_workers) }
     ensures { IfOk result (λ explained. Explains file.now (E.out executor.now) bytes.now explained.status explained.text) }
 {
-    match ask(alloc, keys, rt, bytes, false) {
+    match ask(alloc, keys, rt, bytes) {
         Ok(asked) => explain_asked(alloc, keys, rt, file, bytes, asked, executor, workers),
         Err(Fault::Because(refusal)) => {
             drop(refusal);
@@ -181,7 +181,7 @@ fn missed_of(
     requires { IsAccepted bytes.now }
     ensures { IfOk result (IsMissedOf bytes.now line cause) }
 {
-    match ask(alloc, keys, rt, bytes, false) {
+    match ask(alloc, keys, rt, bytes) {
         Ok(asked) => {
             let made = &asked.evaluated;
             let found = missed_source(alloc, &made.sources, made.rows.as_slice(), line, cause);
@@ -283,11 +283,7 @@ fn explain_faults(
     ensures status { IfOk result (λ explained. explained.status ≡ Refused) }
     ensures text { IfOk result (λ explained. (checked : Checked) × IsCheckOf file.now bytes.now Plain checked × (explained.text ≡ checked.text)) }
 {
-    let Checked {
-        text,
-        is_sound: _,
-        note: _,
-    } = check(alloc, keys, rt, file, bytes, Form::Plain, false)?;
+    let Checked { text, is_sound: _ } = check(alloc, keys, rt, file, bytes, Form::Plain)?;
     Ok(Explained {
         status: Status::Refused,
         text,

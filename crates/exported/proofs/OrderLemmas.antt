@@ -1,7 +1,7 @@
 -- Each input of an operation is the digest of an operation before it: the places of vertices are digests of operations that are there. Something
 -- is said of each operation, and of nothing else.
-use Rattle.std.specs.Prelude.{◌≡◌, ◌+◌, ◌&&◌, ◌||◌, not, ℕ, zero, suc, Bool, true, false, cond, Option, Some, None, Result, Ok, Err, List, [], ◌∷◌, ◌++◌, map, length, is_some, is_ok, IsSome, bytes_eq, slice_index_or, ◌==◌}
-use Rattle.std.proofs.Common.{inl, inr, sym, ap, refl, ◌∙◌, subst, true≢false, append_assoc}
+use Rattle.std.specs.Prelude.{◌≡◌, ℕ, zero, suc, Bool, true, false, cond, Option, Some, None, Result, Ok, Err, List, [], ◌∷◌, ◌++◌, map, length, is_some, is_ok, IsSome, bytes_eq, slice_index_or, ◌==◌}
+use Rattle.std.proofs.Common.{sym, ap, refl, ◌∙◌, subst, true≢false, append_assoc}
 use Rattle.std.specs.List.{AllByRecursion}
 use Rattle.std.specs.Ordering.{is_eq, match_ordering}
 use Rattle.std.specs.declared.cmp.Ordering.{Ordering}
@@ -24,11 +24,7 @@ use Rattle.llbmessages.specs.declared.op.Platform.{Platform}
 use Rattle.llbmessages.specs.declared.definition.OpMetadata.{OpMetadata}
 use Rattle.llbmessages.specs.declared.definition.Definition.{Definition}
 use Rattle.llbmessages.specs.Op.{op_bytes}
-use Rattle.llbmessages.specs.declared.places.Locations.{Locations}
-use Rattle.llbmessages.specs.declared.places.SourceMap.{SourceMap}
 use Rattle.exported.specs.declared.making.Options.{Options}
-use Rattle.exported.specs.declared.making.Empty.{Empty}
-use Rattle.exported.specs.declared.making.Empty.TheVariants.{Root, Nothing}
 use Rattle.exported.specs.declared.making.Made.{Made}
 use Rattle.exported.specs.declared.making.Made.TheVariants.{Same, By}
 use Rattle.exported.specs.declared.fault.Obstacle.{Obstacle}
@@ -40,11 +36,8 @@ use Rattle.exported.specs.declared.making.Merging.{Merging}
 use Rattle.exported.specs.declared.making.Merging.TheVariants.{Native, Chain}
 use Rattle.exported.specs.Making.{places_at, source_made, laid, merged, made_on, vertex_made}
 use Rattle.exported.specs.Metadata.{vertex_name, metadata_of, end_metadata}
-use Rattle.exported.specs.Fresh.{is_fresh}
-use Rattle.exported.specs.declared.located.SourceFile.{SourceFile}
-use Rattle.exported.specs.Located.{locations_of, with_locations, located, source_of}
-use Rattle.exported.specs.Exporting.{and_then, is_speakable, op_at, with_last, said_at, is_anew, again, with_again, with_found, with_op, placed, vertex_placed, all_placed, nothing, root_op, ended_at, ended_empty, ended, exported}
-use Rattle.exported.specs.Order.{IsOn, AreInOrder, AreApart, AreApartToTheEnd, IsSaid, AreOf, IsLocated}
+use Rattle.exported.specs.Exporting.{and_then, is_speakable, op_at, with_last, with_found, with_op, placed, vertex_placed, all_placed, nothing, root_op, ended_at, ended, exported}
+use Rattle.exported.specs.Order.{IsOn, AreInOrder, AreApart, AreApartToTheEnd, IsSaid}
 
 -- ---- what an operation is made of
 
@@ -208,7 +201,7 @@ said_put (entry ∷ entries) key said = by (name_cmp key entry.0) refl (said_put
     by Greater is more = some_later (is_at (name_cmp key) entry.0) entry.1 _ more
 
 module _ (P : List ℕ → Type 0) where
-  keys_put : {A : Type 0} (entries : List (List ℕ × A)) (key : List ℕ) (said : A) → AllByRecursion P (keys_of entries) → P key → AllByRecursion P (keys_of (insert_entry name_cmp entries key said))
+  keys_put : (entries : List (List ℕ × OpMetadata)) (key : List ℕ) (said : OpMetadata) → AllByRecursion P (keys_of entries) → P key → AllByRecursion P (keys_of (insert_entry name_cmp entries key said))
   keys_put [] key said all one = (one, tt)
   keys_put (entry ∷ entries) key said all one = by (name_cmp key entry.0) (keys_put entries key said all.1 one)
     where
@@ -234,21 +227,6 @@ said_more draft bytes said are = record {
       (there_last draft.ops bytes);
 }
 
--- what is said once more of one that is there
-said_again : (draft : Definition) (digest : List ℕ) (said : OpMetadata) → IsSaid draft → IsThere draft.ops digest → IsSaid (with_again draft digest said)
-said_again draft digest said are there = by (said.ignore_cache && not (is_anew (said_at draft.metadata digest)))
-  where
-    new : List (List ℕ × OpMetadata)
-    new = insert_entry name_cmp draft.metadata digest said
-
-    by : (b : Bool) → IsSaid (record { ops = draft.ops; metadata = cond b new draft.metadata; source = draft.source })
-    by true = record {
-      each = keys_more (λ op. HasSaid draft.metadata (digest_of op)) (λ op. HasSaid new (digest_of op)) draft.ops
-          (λ op. said_kept draft.metadata digest said (digest_of op)) are.each;
-      only = keys_put (IsThere draft.ops) draft.metadata digest said are.only there;
-    }
-    by false = record { each = are.each; only = are.only }
-
 -- ---- a walk over vertices
 
 -- what is there after some vertices
@@ -259,10 +237,9 @@ record IsSound (places : List (Option (List ℕ))) (draft : Definition) : Type 0
   said : IsSaid draft
 
 -- one operation more
-record IsMore (before : List (List ℕ)) (places : List (Option (List ℕ))) (draft : Definition) (bytes : List ℕ) : Type 0 where
+record IsMore (places : List (Option (List ℕ))) (draft : Definition) (bytes : List ℕ) : Type 0 where
   sound : IsSound places draft
   added : IsThere draft.ops (digest_of bytes)
-  kept : (digest : List ℕ) → IsThere before digest → IsThere draft.ops digest
 
 same_ok : {A : Type 0} (x y : A) → ◌≡◌ {A = Result A Obstacle} (Ok x) (Ok y) → x ≡ y
 same_ok x y e = ap (λ r. result_unwrap_or r x) e
@@ -271,9 +248,9 @@ err_ok : {A : Type 0} {B : Type 0} (o : Obstacle) (y : A) → ◌≡◌ {A = Res
 err_ok o y e = absurd (true≢false (sym (ap is_ok e)))
 
 found_more : (number : ℕ) (places : List (Option (List ℕ))) (draft : Definition) (bytes : List ℕ) (said : OpMetadata) (more : Definition) (found : Option (List ℕ)) → op_at draft.ops (digest_of bytes) ≡ found → IsSound places draft
-    → IsOn draft.ops bytes → with_found number draft bytes said found ≡ Ok more → IsMore draft.ops places more bytes
+    → IsOn draft.ops bytes → with_found number draft bytes said found ≡ Ok more → IsMore places more bytes
 found_more number places draft bytes said more None is sound on told =
-    subst (λ (new : Definition). IsMore draft.ops places new bytes) (same_ok _ _ told)
+    subst (λ (new : Definition). IsMore places new bytes) (same_ok _ _ told)
     (record {
       sound = record {
         there = places_more draft.ops bytes places sound.there;
@@ -282,56 +259,40 @@ found_more number places draft bytes said more None is sound on told =
         said = said_more draft bytes said sound.said;
       };
       added = there_last draft.ops bytes;
-      kept = there_more draft.ops bytes;
     })
 found_more number places draft bytes said more (Some other) is sound on told = by (bytes_eq other bytes) told
   where
-    there : IsThere draft.ops (digest_of bytes)
-    there = ap is_some is
-
-    by : (b : Bool) → cond b (Ok (with_again draft (digest_of bytes) said)) (Err (Clash number)) ≡ Ok more → IsMore draft.ops places more bytes
-    by true told =
-        subst (λ (new : Definition). IsMore draft.ops places new bytes) (same_ok _ _ told)
-        (record {
-          sound = record { there = sound.there; order = sound.order; apart = sound.apart; said = said_again draft (digest_of bytes) said sound.said there };
-          added = there;
-          kept = λ digest is. is;
-        })
+    by : (b : Bool) → cond b (Ok draft) (Err (Clash number)) ≡ Ok more → IsMore places more bytes
+    by true told = subst (λ (new : Definition). IsMore places new bytes) (same_ok _ _ told) (record { sound = sound; added = ap is_some is })
     by false told = err_ok _ _ told
 
 with_more : (number : ℕ) (places : List (Option (List ℕ))) (draft : Definition) (bytes : List ℕ) (said : OpMetadata) (more : Definition) → IsSound places draft → IsOn draft.ops bytes → with_op number draft bytes said ≡ Ok more
-    → IsMore draft.ops places more bytes
+    → IsMore places more bytes
 with_more number places draft bytes said more sound on told = found_more number places draft bytes said more (op_at draft.ops (digest_of bytes)) refl sound on told
 
-placed_more : (number : ℕ) (places : List (Option (List ℕ))) (draft : Definition) (name : Option (List ℕ)) (fresh : Bool) (made : Made) (next : Option (List ℕ) × Definition) → IsSound places draft → IsMade (IsThere draft.ops) made
-    → placed number draft name fresh made ≡ Ok next → IsSound (places ++ next.0 ∷ []) next.1
-placed_more number places draft name fresh (Same place) next sound made told =
+placed_more : (number : ℕ) (places : List (Option (List ℕ))) (draft : Definition) (name : Option (List ℕ)) (made : Made) (next : Option (List ℕ) × Definition) → IsSound places draft → IsMade (IsThere draft.ops) made
+    → placed number draft name made ≡ Ok next → IsSound (places ++ next.0 ∷ []) next.1
+placed_more number places draft name (Same place) next sound made told =
     subst (λ (n : Option (List ℕ) × Definition). IsSound (places ++ n.0 ∷ []) n.1) (same_ok _ _ told)
     (record { there = places_last draft.ops places place sound.there made; order = sound.order; apart = sound.apart; said = sound.said })
-placed_more number places draft name fresh (By op) next sound made told = by (with_op number draft (op_bytes op) (metadata_of name fresh op)) refl told
+placed_more number places draft name (By op) next sound made told = by (with_op number draft (op_bytes op) (metadata_of name op)) refl told
   where
-    by : (o : Result Definition Obstacle) → with_op number draft (op_bytes op) (metadata_of name fresh op) ≡ o → and_then o (λ more. Ok (Some (digest_of (op_bytes op)), more)) ≡ Ok next
+    by : (o : Result Definition Obstacle) → with_op number draft (op_bytes op) (metadata_of name op) ≡ o → and_then o (λ more. Ok (Some (digest_of (op_bytes op)), more)) ≡ Ok next
         → IsSound (places ++ next.0 ∷ []) next.1
     by (Ok more) is told =
-        let grown : IsMore draft.ops places more (op_bytes op) = with_more number places draft (op_bytes op) (metadata_of name fresh op) more sound (op, (refl, made)) is in
+        let grown : IsMore places more (op_bytes op) = with_more number places draft (op_bytes op) (metadata_of name op) more sound (op, (refl, made)) is in
         subst (λ (n : Option (List ℕ) × Definition). IsSound (places ++ n.0 ∷ []) n.1) (same_ok _ _ told)
         (record { there = places_last more.ops places (Some (digest_of (op_bytes op))) grown.sound.there grown.added; order = grown.sound.order; apart = grown.sound.apart; said = grown.sound.said })
     by (Err obstacle) is told = err_ok _ _ told
 
-vertex_more : (options : Options) (names : List (Option (List ℕ))) (lines : List ℕ) (places : List (Option (List ℕ))) (draft : Definition) (vertex : Vertex) (next : Option (List ℕ) × Definition) → IsSound places draft
-    → vertex_placed options names lines places draft vertex ≡ Ok next → IsSound (places ++ next.0 ∷ []) next.1
+vertex_more : (options : Options) (names : List (Option (List ℕ))) (line : ℕ) (places : List (Option (List ℕ))) (draft : Definition) (vertex : Vertex) (next : Option (List ℕ) × Definition) → IsSound places draft
+    → vertex_placed options names line places draft vertex ≡ Ok next → IsSound (places ++ next.0 ∷ []) next.1
 unfolding vertex_placed
-vertex_more options names lines places draft vertex next sound told = by (is_speakable options vertex.op) told
+vertex_more options names line places draft vertex next sound told = by (is_speakable options vertex.op) told
   where
-    name : Option (List ℕ)
-    name = vertex_name names (least_line lines) vertex.op
-
-    fresh : Bool
-    fresh = is_fresh options.no_cache lines vertex.op
-
-    by : (b : Bool) → cond b (placed (length places) draft name fresh (vertex_made options places vertex)) (Err (Unspeakable (length places))) ≡ Ok next → IsSound (places ++ next.0 ∷ []) next.1
+    by : (b : Bool) → cond b (placed (length places) draft (vertex_name names line vertex.op) (vertex_made options places vertex)) (Err (Unspeakable (length places))) ≡ Ok next → IsSound (places ++ next.0 ∷ []) next.1
     by true told =
-        placed_more (length places) places draft name fresh (vertex_made options places vertex) next sound (vertex_all (IsThere draft.ops) options places vertex sound.there) told
+        placed_more (length places) places draft (vertex_name names line vertex.op) (vertex_made options places vertex) next sound (vertex_all (IsThere draft.ops) options places vertex sound.there) told
     by false told = err_ok _ _ told
 
 all_more : (options : Options) (names : List (Option (List ℕ))) (lines : List (List ℕ)) (places : List (Option (List ℕ))) (draft : Definition) (vertices : List Vertex) (known : List (Option (List ℕ)) × Definition) → IsSound places draft
@@ -339,17 +300,17 @@ all_more : (options : Options) (names : List (Option (List ℕ))) (lines : List 
 all_more options names lines places draft [] known sound told =
     subst (λ (k : List (Option (List ℕ)) × Definition). IsSound k.0 k.1) (same_ok _ _ told) sound
 all_more options names lines places draft (vertex ∷ vertices) known sound told =
-    by (vertex_placed options names own places draft vertex) refl told
+    by (vertex_placed options names line places draft vertex) refl told
     (λ (next : Option (List ℕ) × Definition). all_more options names lines (places ++ next.0 ∷ []) next.1 vertices known)
   where
-    own : List ℕ
-    own = slice_index_or lines (length places) []
+    line : ℕ
+    line = least_line (slice_index_or lines (length places) [])
 
-    by : (o : Result (Option (List ℕ) × Definition) Obstacle) → vertex_placed options names own places draft vertex ≡ o
+    by : (o : Result (Option (List ℕ) × Definition) Obstacle) → vertex_placed options names line places draft vertex ≡ o
         → and_then o (λ next. all_placed options names lines (places ++ next.0 ∷ []) next.1 vertices) ≡ Ok known
         → ((next : Option (List ℕ) × Definition) → IsSound (places ++ next.0 ∷ []) next.1 → all_placed options names lines (places ++ next.0 ∷ []) next.1 vertices ≡ Ok known → IsSound known.0 known.1)
         → IsSound known.0 known.1
-    by (Ok next) is told rest = rest next (vertex_more options names own places draft vertex next sound is) told
+    by (Ok next) is told rest = rest next (vertex_more options names line places draft vertex next sound is) told
     by (Err obstacle) is told rest = err_ok _ _ told
 
 end_inputs : (ops : List (List ℕ)) (digest : List ℕ) → IsThere ops digest → AllByRecursion (λ input. IsThere ops input.digest) (end_op digest).inputs
@@ -366,72 +327,32 @@ root_inputs options ops = on_all (IsThere ops) _ [] _ tt
 root_on : (options : Options) (ops : List (List ℕ)) → IsOn ops (op_bytes (root_op options))
 root_on options ops = (root_op options, (refl, root_inputs options ops))
 
--- ---- where operations stand
-
-module _ (P : List ℕ → Type 0) where
-  located_one : (ends lines : List ℕ) (place : Option (List ℕ)) (found : List (List ℕ × Locations)) → AtPlace P place → AllByRecursion P (keys_of found)
-      → AllByRecursion P (keys_of (with_locations ends lines place found))
-  located_one ends lines None found at all = all
-  located_one ends lines (Some digest) found at all = by ((length lines == 0) || is_some (lookup (is_at (name_cmp digest)) found))
-    where
-      by : (b : Bool) → AllByRecursion P (keys_of (cond b found (insert_entry name_cmp found digest (locations_of ends lines))))
-      by true = all
-      by false = keys_put P found digest (locations_of ends lines) all at
-
-  located_all : (ends : List ℕ) (lines : List (List ℕ)) (places : List (Option (List ℕ))) (number : ℕ) (vertices : List Vertex) (found : List (List ℕ × Locations)) → AllByRecursion (AtPlace P) places
-      → AllByRecursion P (keys_of found) → AllByRecursion P (keys_of (located ends lines places number vertices found))
-  located_all ends lines places number [] found at all = all
-  located_all ends lines places number (vertex ∷ vertices) found at all =
-      located_all ends lines places (number + 1) vertices (with_locations ends (slice_index_or lines number []) (slice_index_or places number None) found) at
-      (located_one ends (slice_index_or lines number []) (slice_index_or places number None) found (place_at P places number at) all)
-
-source_there : (ops : List (List ℕ)) (file : Option SourceFile) (graph : GraphValue) (places : List (Option (List ℕ))) → AreThere ops places → AreOf ops (source_of file graph places)
-source_there ops None graph places at = tt
-source_there ops (Some file) graph places at = located_all (IsThere ops) file.ends graph.places places 0 graph.vertices [] at tt
-
-source_kept : (ops more : List (List ℕ)) (source : Option SourceMap) → ((digest : List ℕ) → IsThere ops digest → IsThere more digest) → AreOf ops source → AreOf more source
-source_kept ops more None kept are = tt
-source_kept ops more (Some source) kept are = keys_more (IsThere ops) (IsThere more) (keys_of source.locations) kept are
-
 -- what a whole definition is
 record IsEnded (definition : Definition) : Type 0 where
   order : AreInOrder [] definition.ops
   apart : AreApartToTheEnd definition
   said : IsSaid definition
-  stands : IsLocated definition
 
-ended_sound : (places : List (Option (List ℕ))) (source : Option SourceMap) (draft : Definition) (digest : List ℕ) → IsSound places draft → AreOf draft.ops source → IsThere draft.ops digest
-    → IsEnded (ended_at source draft digest)
+ended_sound : (places : List (Option (List ℕ))) (draft : Definition) (digest : List ℕ) → IsSound places draft → IsThere draft.ops digest → IsEnded (ended_at draft digest)
 unfolding ended_at
-ended_sound places source draft digest sound are there = record {
+ended_sound places draft digest sound there = record {
   order = order_last [] draft.ops (op_bytes (end_op digest)) sound.order (end_on draft.ops digest there);
-  apart = inr (draft.ops, (digest, (refl, sound.apart)));
-  said = let more : IsSaid (with_last draft (op_bytes (end_op digest)) (end_metadata draft.metadata)) = said_more draft (op_bytes (end_op digest)) (end_metadata draft.metadata) sound.said in
-      record { each = more.each; only = more.only };
-  stands = source_kept draft.ops (draft.ops ++ op_bytes (end_op digest) ∷ []) source (there_more draft.ops (op_bytes (end_op digest))) are;
+  apart = (draft.ops, (digest, (refl, sound.apart)));
+  said = said_more draft (op_bytes (end_op digest)) (end_metadata draft.metadata) sound.said;
 }
 
-nothing_ended : IsEnded nothing
-nothing_ended = record { order = tt; apart = inl refl; said = record { each = tt; only = tt }; stands = tt }
-
-empty_sound : (empty : Empty) (options : Options) (number : ℕ) (source : Option SourceMap) (places : List (Option (List ℕ))) (draft : Definition) (definition : Definition) → IsSound places draft → AreOf draft.ops source
-    → ended_empty empty options number source draft ≡ Ok definition → IsEnded definition
-empty_sound Nothing options number source places draft definition sound are told = subst IsEnded (same_ok _ _ told) nothing_ended
-empty_sound Root options number source places draft definition sound are told = by (with_op number draft (op_bytes (root_op options)) (metadata_of None false (root_op options))) refl told
+end_sound : (options : Options) (number : ℕ) (places : List (Option (List ℕ))) (draft : Definition) (place : Option (List ℕ)) (definition : Definition) → IsSound places draft → AtPlace (IsThere draft.ops) place
+    → ended options number draft place ≡ Ok definition → IsEnded definition
+end_sound options number places draft (Some digest) definition sound at told =
+    subst IsEnded (same_ok _ _ told) (ended_sound places draft digest sound at)
+end_sound options number places draft None definition sound at told = by (with_op number draft (op_bytes (root_op options)) (metadata_of None (root_op options))) refl told
   where
-    by : (o : Result Definition Obstacle) → with_op number draft (op_bytes (root_op options)) (metadata_of None false (root_op options)) ≡ o
-        → and_then o (λ more. Ok (ended_at source more (digest_of (op_bytes (root_op options))))) ≡ Ok definition → IsEnded definition
+    by : (o : Result Definition Obstacle) → with_op number draft (op_bytes (root_op options)) (metadata_of None (root_op options)) ≡ o
+        → and_then o (λ more. Ok (ended_at more (digest_of (op_bytes (root_op options))))) ≡ Ok definition → IsEnded definition
     by (Ok more) is told =
-        let grown : IsMore draft.ops places more (op_bytes (root_op options)) = with_more number places draft (op_bytes (root_op options)) (metadata_of None false (root_op options)) more sound (root_on options draft.ops) is in
-        subst IsEnded (same_ok _ _ told)
-        (ended_sound places source more (digest_of (op_bytes (root_op options))) grown.sound (source_kept draft.ops more.ops source grown.kept are) grown.added)
+        let grown : IsMore places more (op_bytes (root_op options)) = with_more number places draft (op_bytes (root_op options)) (metadata_of None (root_op options)) more sound (root_on options draft.ops) is in
+        subst IsEnded (same_ok _ _ told) (ended_sound places more (digest_of (op_bytes (root_op options))) grown.sound grown.added)
     by (Err obstacle) is told = err_ok _ _ told
-
-end_sound : (options : Options) (number : ℕ) (source : Option SourceMap) (places : List (Option (List ℕ))) (draft : Definition) (place : Option (List ℕ)) (definition : Definition) → IsSound places draft → AreOf draft.ops source
-    → AtPlace (IsThere draft.ops) place → ended options number source draft place ≡ Ok definition → IsEnded definition
-end_sound options number source places draft (Some digest) definition sound are at told =
-    subst IsEnded (same_ok _ _ told) (ended_sound places source draft digest sound are at)
-end_sound options number source places draft None definition sound are at told = empty_sound options.empty options number source places draft definition sound are told
 
 none_sound : IsSound [] nothing
 none_sound = record { there = tt; order = tt; apart = tt; said = record { each = tt; only = tt } }
@@ -440,11 +361,10 @@ whole_sound : (options : Options) (names : List (Option (List ℕ))) (graph : Gr
 whole_sound options names graph wanted definition told = by (all_placed options names graph.places [] nothing graph.vertices) refl told
   where
     by : (o : Result (List (Option (List ℕ)) × Definition) Obstacle) → all_placed options names graph.places [] nothing graph.vertices ≡ o
-        → and_then o (λ known. ended options (length graph.vertices) (source_of options.source graph known.0) known.1 (slice_index_or known.0 wanted None)) ≡ Ok definition → IsEnded definition
+        → and_then o (λ known. ended options (length graph.vertices) known.1 (slice_index_or known.0 wanted None)) ≡ Ok definition → IsEnded definition
     by (Ok known) is told =
         let sound : IsSound known.0 known.1 = all_more options names graph.places [] nothing graph.vertices known none_sound is in
-        end_sound options (length graph.vertices) (source_of options.source graph known.0) known.0 known.1 (slice_index_or known.0 wanted None) definition sound
-        (source_there known.1.ops options.source graph known.0 sound.there) (place_at (IsThere known.1.ops) known.0 wanted sound.there) told
+        end_sound options (length graph.vertices) known.0 known.1 (slice_index_or known.0 wanted None) definition sound (place_at (IsThere known.1.ops) known.0 wanted sound.there) told
     by (Err obstacle) is told = err_ok _ _ told
 
 pub inputs_before : (options : Options) (names : List (Option (List ℕ))) (graph : GraphValue) (wanted : ℕ) (definition : Definition) → exported options names graph wanted ≡ Ok definition → AreInOrder [] definition.ops
@@ -455,6 +375,3 @@ digests_apart options names graph wanted definition told = (whole_sound options 
 
 pub each_said : (options : Options) (names : List (Option (List ℕ))) (graph : GraphValue) (wanted : ℕ) (definition : Definition) → exported options names graph wanted ≡ Ok definition → IsSaid definition
 each_said options names graph wanted definition told = (whole_sound options names graph wanted definition told).said
-
-pub each_located : (options : Options) (names : List (Option (List ℕ))) (graph : GraphValue) (wanted : ℕ) (definition : Definition) → exported options names graph wanted ≡ Ok definition → IsLocated definition
-each_located options names graph wanted definition told = (whole_sound options names graph wanted definition told).stands

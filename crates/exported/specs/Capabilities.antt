@@ -1,16 +1,15 @@
 -- What an engine has to be capable of to run an operation (BuildKit's LLB, `OpMetadata`; BuildKit, `addCap` in client/llb; the names are those
 -- of solver/pb/caps.go). One that isn't refuses the definition, and names what it isn't capable of.
-use Rattle.std.specs.Prelude.{ℕ, pos, Bool, true, false, not, ◌&&◌, ◌==◌, List, [], ◌∷◌, ◌++◌, codes, length, nat_eq, int_le, int_lt, is_some, if◌then◌else◌}
+use Rattle.std.specs.Prelude.{ℕ, pos, Bool, true, false, not, ◌&&◌, ◌==◌, List, [], ◌∷◌, ◌++◌, codes, length, nat_eq, int_le, if◌then◌else◌}
 use Rattle.std.specs.List.{starts_with}
 use Rattle.std.specs.BTreeMap.{insert_entry}
 use Rattle.paths.specs.Order.{name_cmp}
 use Rattle.llbmessages.specs.declared.source.SourceOp.{SourceOp}
 use Rattle.llbmessages.specs.declared.exec.Network.{Network}
 use Rattle.llbmessages.specs.declared.exec.Network.TheVariants.{Sandbox, Host, None as NoNetwork}
-use Rattle.llbmessages.specs.declared.exec.Meta.{Meta}
 use Rattle.llbmessages.specs.declared.exec.Mount.{Mount}
 use Rattle.llbmessages.specs.declared.exec.MountKind.{MountKind}
-use Rattle.llbmessages.specs.declared.exec.MountKind.TheVariants.{Bind, Cache, Tmpfs}
+use Rattle.llbmessages.specs.declared.exec.MountKind.TheVariants.{Bind, Cache}
 use Rattle.llbmessages.specs.declared.exec.ExecOp.{ExecOp}
 use Rattle.llbmessages.specs.declared.op.OpKind.{OpKind}
 use Rattle.llbmessages.specs.declared.op.OpKind.TheVariants.{End, Exec, Source, File, Merge}
@@ -45,14 +44,12 @@ is_chosen Host = true
 is_chosen NoNetwork = true
 
 -- what a mount is: a bind, of a tree that an operation makes; one that is written to though no output is made of it (own, after BuildKit's
--- front end, which makes none that an engine isn't capable of); a cache; or files in memory, of so many bytes
+-- front end, which makes none that an engine isn't capable of); or a cache
 abbrev pub mount_kind_caps : MountKind → Mount → Caps → Caps
 mount_kind_caps Bind mount caps =
     with_cap (not mount.readonly && not (int_le (pos 0) mount.output)) (codes "exec.mount.bind.readwrite-nooutput")
     (with_cap (int_le (pos 0) mount.input) (codes "exec.mount.bind") caps)
 mount_kind_caps (Cache cache) mount caps = with_cap true (codes "exec.mount.cache.sharing") (with_cap true (codes "exec.mount.cache") caps)
-mount_kind_caps (Tmpfs tmpfs) mount caps =
-    with_cap (int_lt (pos 0) tmpfs.size) (codes "exec.mount.tmpfs.size") (with_cap true (codes "exec.mount.tmpfs") caps)
 
 -- a mount, of a part of a tree or of all of it
 unfoldable pub mount_caps : Mount → Caps → Caps
@@ -63,20 +60,10 @@ abbrev pub mounts_caps : List Mount → Caps → Caps
 mounts_caps [] caps = caps
 mounts_caps (mount ∷ mounts) caps = mounts_caps mounts (mount_caps mount caps)
 
--- what a command runs with: proxies, limits and a control group. For a control group BuildKit's client asks nothing; asked for, an engine that knows
--- less refuses the definition, and takes nothing else for it (own). Names of machines and what is left of mounts are of no capability: of the latter
--- BuildKit has a name that no engine knows (BuildKit)
-unfoldable pub meta_caps : Meta → Caps → Caps
-meta_caps meta caps =
-    with_cap (not (length meta.cgroup_parent == 0)) (codes "exec.meta.cgroup.parent")
-    (with_cap (not (length meta.limits == 0)) (codes "exec.meta.ulimit")
-    (with_cap (is_some meta.proxy) (codes "exec.meta.proxyenv") caps))
-
 -- a command with its mounts
 unfoldable pub exec_caps : ExecOp → Caps
 exec_caps exec =
-    mounts_caps exec.mounts
-    (meta_caps exec.meta (with_cap (is_chosen exec.network) (codes "exec.meta.network") (with_cap true (codes "exec.meta.base") [])))
+    mounts_caps exec.mounts (with_cap (is_chosen exec.network) (codes "exec.meta.network") (with_cap true (codes "exec.meta.base") []))
 
 -- ---- any operation
 

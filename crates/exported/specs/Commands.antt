@@ -1,16 +1,15 @@
--- What a command is in a definition (BuildKit's LLB, `ExecOp`, `Meta`, `Mount`), with what every command is given beside what its instruction says
--- (BuildKit, the options of its own front end: `dispatchRun` in frontend/dockerfile/dockerfile2llb).
-use Rattle.std.specs.Prelude.{ℕ, ◌+◌, ℤ, pos, negsuc, int_lt, false, not, Option, List, [], ◌∷◌, ◌++◌, map, codes, if◌then◌else◌}
+-- What a command is in a definition (BuildKit's LLB, `ExecOp`, `Meta`, `Mount`).
+use Rattle.std.specs.Prelude.{ℕ, ◌+◌, ℤ, pos, negsuc, false, not, Option, List, [], ◌∷◌, ◌++◌, map, codes}
 use Rattle.paths.specs.Path.{text_of}
 use Rattle.plain.specs.declared.variable.Variable.{Variable}
 use Rattle.runs.specs.declared.run.CacheUse.{CacheUse}
 use Rattle.llb.specs.declared.op.Bind.{Bind}
 use Rattle.llb.specs.declared.op.Exec.{Exec}
+use Rattle.llbmessages.specs.declared.exec.Network.{Network}
 use Rattle.llbmessages.specs.declared.exec.Meta.{Meta}
 use Rattle.llbmessages.specs.declared.exec.Mount.{Mount}
-use Rattle.llbmessages.specs.declared.exec.MountKind.TheVariants.{Bind as BindMount, Cache as CacheMount, Tmpfs as MemoryMount}
+use Rattle.llbmessages.specs.declared.exec.MountKind.TheVariants.{Bind as BindMount, Cache as CacheMount}
 use Rattle.llbmessages.specs.declared.exec.ExecOp.{ExecOp}
-use Rattle.exported.specs.declared.commands.CommandOptions.{CommandOptions}
 use Rattle.exported.specs.Places.{inputs_of, index_at}
 
 -- a variable as a command is given it
@@ -18,20 +17,8 @@ abbrev pub variable_text : Variable → List ℕ
 variable_text variable = variable.name ++ (codes "=" ++ variable.value)
 
 -- a command, and what it runs with
-unfoldable pub meta_of : CommandOptions → Exec → Meta
-meta_of commands exec =
-    record {
-      args = exec.words;
-      env = map variable_text exec.env;
-      cwd = text_of exec.dir;
-      user = exec.user;
-      proxy = commands.proxy;
-      hosts = commands.hosts;
-      hostname = commands.hostname;
-      limits = commands.limits;
-      cgroup_parent = commands.cgroup_parent;
-      clears_stubs = commands.clears_stubs;
-    }
+unfoldable pub meta_of : Exec → Meta
+meta_of exec = record { args = exec.words; env = map variable_text exec.env; cwd = text_of exec.dir; user = exec.user }
 
 -- the part of a tree that is mounted: none is named for all of it
 abbrev pub selector_of : List (List ℕ) → List ℕ
@@ -65,30 +52,12 @@ bind_mounts digests places number [] = []
 bind_mounts digests places number (bind ∷ binds) =
     bind_mount (index_at digests places number) bind ∷ bind_mounts digests places (number + 1) binds
 
--- a mount of so many bytes of files in memory, which begins without a file, and of which nothing is kept (BuildKit, the option `shm-size`)
-unfoldable pub memory_mount : ℤ → Mount
-memory_mount size =
-    record {
-      input = negsuc 0;
-      selector = [];
-      dest = codes "/dev/shm";
-      output = negsuc 0;
-      readonly = false;
-      kind = MemoryMount (record { size = size });
-    }
+-- a command's mounts: the tree that it runs in, its bind mounts and its caches, in the order of the line (BuildKit itself puts those above before
+-- those below)
+unfoldable pub mounts_of : List (Option (List ℕ)) → Exec → List Mount
+mounts_of places exec =
+    (root_mount (index_at (inputs_of places) places 0) ∷ bind_mounts (inputs_of places) places 1 exec.binds) ++ map cache_mount exec.caches
 
--- the same, if it is of some bytes
-abbrev pub memory_mounts : ℤ → List Mount
-memory_mounts size = if int_lt (pos 0) size then memory_mount size ∷ [] else []
-
--- a command's mounts: the tree that it runs in, files in memory of so many bytes, its bind mounts and its caches, in the order of the line (BuildKit
--- itself puts those above before those below). So where the line has a mount at `/dev/shm` itself, that one counts
-unfoldable pub mounts_of : ℤ → List (Option (List ℕ)) → Exec → List Mount
-mounts_of size places exec =
-    ((root_mount (index_at (inputs_of places) places 0) ∷ memory_mounts size) ++ bind_mounts (inputs_of places) places 1 exec.binds)
-    ++ map cache_mount exec.caches
-
--- a command on the trees of these places, with what every command is given
-unfoldable pub exec_of : CommandOptions → List (Option (List ℕ)) → Exec → ExecOp
-exec_of commands places exec =
-    record { meta = meta_of commands exec; mounts = mounts_of commands.shm_size places exec; network = commands.network }
+-- a command on the trees of these places, with this network
+unfoldable pub exec_of : Network → List (Option (List ℕ)) → Exec → ExecOp
+exec_of network places exec = record { meta = meta_of exec; mounts = mounts_of places exec; network = network }

@@ -1,9 +1,8 @@
 -- A plan as a definition (own; BuildKit's LLB, `Definition`): the operations that its vertices are, in their order and each once, and an end
 -- that names the result; and what is said of each. An operation speaks of others by their digests, so there is no definition where two different
 -- ones have one digest.
-use Rattle.std.specs.Prelude.{◌≡◌, ℕ, Bool, true, false, not, ◌&&◌, ◌||◌, Option, Some, None, Result, Ok, Err, List, [], ◌∷◌, ◌++◌, length, bytes_eq, nat_le, ◌==◌, if◌then◌else◌, slice_index_or}
-use Rattle.std.specs.Map.{lookup}
-use Rattle.std.specs.BTreeMap.{is_at, insert_entry}
+use Rattle.std.specs.Prelude.{◌≡◌, ℕ, Bool, true, false, ◌&&◌, ◌||◌, Option, Some, None, Result, Ok, Err, List, [], ◌∷◌, ◌++◌, length, bytes_eq, nat_le, ◌==◌, if◌then◌else◌, slice_index_or}
+use Rattle.std.specs.BTreeMap.{insert_entry}
 use Rattle.plain.specs.declared.fault.Fault.{Fault}
 use Rattle.plain.specs.declared.fault.Fault.TheVariants.{Because, Memory}
 use Rattle.paths.specs.Order.{name_cmp}
@@ -17,12 +16,9 @@ use Rattle.llbmessages.specs.declared.op.Op.{Op}
 use Rattle.llbmessages.specs.declared.op.OpKind.TheVariants.{File as FileKind}
 use Rattle.llbmessages.specs.declared.definition.OpMetadata.{OpMetadata}
 use Rattle.llbmessages.specs.declared.definition.Definition.{Definition}
-use Rattle.llbmessages.specs.declared.places.SourceMap.{SourceMap}
 use Rattle.llbmessages.specs.Op.{op_bytes}
 use Rattle.llbmessages.specs.Definition.{definition_bytes, read_definition}
 use Rattle.exported.specs.declared.making.Options.{Options}
-use Rattle.exported.specs.declared.making.Empty.{Empty}
-use Rattle.exported.specs.declared.making.Empty.TheVariants.{Root, Nothing}
 use Rattle.exported.specs.declared.making.Made.{Made}
 use Rattle.exported.specs.declared.making.Made.TheVariants.{Same, By}
 use Rattle.exported.specs.declared.fault.Obstacle.{Obstacle}
@@ -31,8 +27,6 @@ use Rattle.exported.specs.Patterns.{escapes}
 use Rattle.exported.specs.Places.{digest_of}
 use Rattle.exported.specs.Operations.{op_on, end_op}
 use Rattle.exported.specs.Files.{make_dir_actions}
-use Rattle.exported.specs.Fresh.{is_fresh}
-use Rattle.exported.specs.Located.{source_of}
 use Rattle.exported.specs.Making.{vertex_made}
 use Rattle.exported.specs.Metadata.{vertex_name, metadata_of, end_metadata}
 
@@ -83,36 +77,13 @@ op_at (bytes ∷ ops) digest = if bytes_eq (digest_of bytes) digest then Some by
 -- a definition with one more operation, of which this is said; what is said stands in the order of the digests (BuildKit's own writer)
 abbrev pub with_last : Definition → List ℕ → OpMetadata → Definition
 with_last definition bytes said =
-    record {
-      ops = definition.ops ++ bytes ∷ [];
-      metadata = insert_entry name_cmp definition.metadata (digest_of bytes) said;
-      source = definition.source;
-    }
+    record { ops = definition.ops ++ bytes ∷ []; metadata = insert_entry name_cmp definition.metadata (digest_of bytes) said }
 
--- what is said of the operation of a digest
-abbrev pub said_at : List (List ℕ × OpMetadata) → List ℕ → Option OpMetadata
-said_at entries digest = lookup (is_at (name_cmp digest)) entries
-
--- whether it is made anew
-abbrev pub is_anew : Option OpMetadata → Bool
-is_anew None = false
-is_anew (Some said) = said.ignore_cache
-
--- what is said of operations, where this is said once more of the one of a digest: what was said before counts, unless only now it is to be made anew
--- (BuildKit, `mergeMetadata` in client/llb/state.go, as far as making anew goes; of names the last one counts there)
-abbrev pub again : List (List ℕ × OpMetadata) → List ℕ → OpMetadata → List (List ℕ × OpMetadata)
-again entries digest said =
-    if said.ignore_cache && not (is_anew (said_at entries digest)) then insert_entry name_cmp entries digest said else entries
-
--- a definition in which this is said once more
-abbrev pub with_again : Definition → List ℕ → OpMetadata → Definition
-with_again definition digest said =
-    record { ops = definition.ops; metadata = again definition.metadata digest said; source = definition.source }
-
--- a definition with one more operation, where this one has its digest: the same isn't written twice; a different one is a clash
+-- a definition with one more operation, where this one has its digest: the same isn't written twice, and what was said of it first counts; a
+-- different one is a clash
 abbrev pub with_found : ℕ → Definition → List ℕ → OpMetadata → Option (List ℕ) → Result Definition Obstacle
 with_found number definition bytes said None = Ok (with_last definition bytes said)
-with_found number definition bytes said (Some other) = if bytes_eq other bytes then Ok (with_again definition (digest_of bytes) said) else Err (Clash number)
+with_found number definition bytes said (Some other) = if bytes_eq other bytes then Ok definition else Err (Clash number)
 
 -- a definition with the operation of a vertex, of which `number` is the number
 abbrev pub with_op : ℕ → Definition → List ℕ → OpMetadata → Result Definition Obstacle
@@ -120,65 +91,54 @@ with_op number definition bytes said = with_found number definition bytes said (
 
 -- ---- vertices
 
--- the place of what a vertex of this name is, which may have to be made anew, and the definition with its operation
-abbrev pub placed : ℕ → Definition → Option (List ℕ) → Bool → Made → Result (Option (List ℕ) × Definition) Obstacle
-placed number definition name fresh (Same place) = Ok (place, definition)
-placed number definition name fresh (By op) =
-    and_then (with_op number definition (op_bytes op) (metadata_of name fresh op)) (λ more. Ok (Some (digest_of (op_bytes op)), more))
+-- the place of what a vertex of this name is, and the definition with its operation
+abbrev pub placed : ℕ → Definition → Option (List ℕ) → Made → Result (Option (List ℕ) × Definition) Obstacle
+placed number definition name (Same place) = Ok (place, definition)
+placed number definition name (By op) =
+    and_then (with_op number definition (op_bytes op) (metadata_of name op)) (λ more. Ok (Some (digest_of (op_bytes op)), more))
 
 -- the place of a vertex, of which those before have these places, and the definition with its operation. `names` has the names of lines, and
--- `lines` are those behind the vertex, of which the least one names it
-unfoldable pub vertex_placed : Options → List (Option (List ℕ)) → List ℕ → List (Option (List ℕ)) → Definition → Vertex → Result (Option (List ℕ) × Definition) Obstacle
-vertex_placed options names lines places definition vertex =
+-- `line` is the least behind the vertex
+unfoldable pub vertex_placed : Options → List (Option (List ℕ)) → ℕ → List (Option (List ℕ)) → Definition → Vertex → Result (Option (List ℕ) × Definition) Obstacle
+vertex_placed options names line places definition vertex =
     if is_speakable options vertex.op
-    then placed (length places) definition (vertex_name names (least_line lines) vertex.op) (is_fresh options.no_cache lines vertex.op) (vertex_made options places vertex)
+    then placed (length places) definition (vertex_name names line vertex.op) (vertex_made options places vertex)
     else Err (Unspeakable (length places))
 
 -- the places of all vertices, of which those before have these, and the definition with their operations; `lines` has the lines behind each vertex
 abbrev pub all_placed : Options → List (Option (List ℕ)) → List (List ℕ) → List (Option (List ℕ)) → Definition → List Vertex → Result (List (Option (List ℕ)) × Definition) Obstacle
 all_placed options names lines places definition [] = Ok (places, definition)
 all_placed options names lines places definition (vertex ∷ vertices) =
-    and_then (vertex_placed options names (slice_index_or lines (length places) []) places definition vertex)
+    and_then (vertex_placed options names (least_line (slice_index_or lines (length places) [])) places definition vertex)
     (λ next. all_placed options names lines (places ++ next.0 ∷ []) next.1 vertices)
 
 -- ---- the whole
 
 -- no operation yet
 abbrev pub nothing : Definition
-nothing = record { ops = []; metadata = []; source = None }
+nothing = record { ops = []; metadata = [] }
 
 -- the operation that makes the root of an empty tree: an end has to name an operation
 unfoldable pub root_op : Options → Op
 root_op options = op_on (Some options.platform) [] (FileKind (record { actions = make_dir_actions [] [] }))
 
--- a definition with its end, where the operation of this digest has the result, and with where its operations stand
-unfoldable pub ended_at : Option SourceMap → Definition → List ℕ → Definition
-ended_at source definition digest =
-    record {
-      ops = definition.ops ++ op_bytes (end_op digest) ∷ [];
-      metadata = insert_entry name_cmp definition.metadata (digest_of (op_bytes (end_op digest))) (end_metadata definition.metadata);
-      source = source;
-    }
+-- a definition with its end, where the operation of this digest has the result
+unfoldable pub ended_at : Definition → List ℕ → Definition
+ended_at definition digest = with_last definition (op_bytes (end_op digest)) (end_metadata definition.metadata)
 
--- the definition whose result is the empty tree: BuildKit's own front end has nothing at all (BuildKit, `Marshal` in client/llb/state.go), and a client
--- takes no such definition, so that the root may be made. `number` is how many vertices there are
-abbrev pub ended_empty : Empty → Options → ℕ → Option SourceMap → Definition → Result Definition Obstacle
-ended_empty Nothing options number source definition = Ok nothing
-ended_empty Root options number source definition =
-    and_then (with_op number definition (op_bytes (root_op options)) (metadata_of None false (root_op options)))
-    (λ more. Ok (ended_at source more (digest_of (op_bytes (root_op options)))))
-
--- a definition with its end, whose result is at this place, and with where its operations stand
-abbrev pub ended : Options → ℕ → Option SourceMap → Definition → Option (List ℕ) → Result Definition Obstacle
-ended options number source definition (Some digest) = Ok (ended_at source definition digest)
-ended options number source definition None = ended_empty options.empty options number source definition
+-- a definition with its end, whose result is at this place; `number` is how many vertices there are
+abbrev pub ended : Options → ℕ → Definition → Option (List ℕ) → Result Definition Obstacle
+ended options number definition (Some digest) = Ok (ended_at definition digest)
+ended options number definition None =
+    and_then (with_op number definition (op_bytes (root_op options)) (metadata_of None (root_op options)))
+    (λ more. Ok (ended_at more (digest_of (op_bytes (root_op options)))))
 
 -- the definition of a graph and its result; or the first vertex that stands in its way. `names` has what progress calls the instruction of each
 -- line, if it has a name
 abbrev pub exported : Options → List (Option (List ℕ)) → GraphValue → ℕ → Result Definition Obstacle
 exported options names graph wanted =
     and_then (all_placed options names graph.places [] nothing graph.vertices)
-    (λ known. ended options (length graph.vertices) (source_of options.source graph known.0) known.1 (slice_index_or known.0 wanted None))
+    (λ known. ended options (length graph.vertices) known.1 (slice_index_or known.0 wanted None))
 
 -- what exporting answers: the bytes of just that definition, which are read as it; or the obstacle. Want of memory says nothing
 abbrev pub IsExported : Result Definition Obstacle → Result (List ℕ) (Fault Obstacle) → Type 0

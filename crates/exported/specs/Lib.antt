@@ -5,8 +5,6 @@ pub mod Excluding
 pub mod Exporting
 pub mod Files
 pub mod Following
-pub mod Fresh
-pub mod Located
 pub mod Making
 pub mod Merges
 pub mod Metadata

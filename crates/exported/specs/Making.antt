@@ -30,7 +30,7 @@ places_at known ids = map (λ id. slice_index_or known id None) ids
 -- a source; images are of the platform and have names that may be pinned, and the files of a build are of no platform
 abbrev pub source_made : Options → Source → Made
 source_made options Scratch = Same None
-source_made options Context = By (op_on None [] (SourceKind (context_source options.context options.unique options.excludes options.follows)))
+source_made options Context = By (op_on None [] (SourceKind (context_source options.unique options.excludes options.follows)))
 source_made options (Image name) = By (op_on (Some options.platform) [] (SourceKind (image_source (pinned_name options.digests name))))
 
 -- the operation that lays trees over each other: BuildKit's own merge, for which nothing is asked of the platform, or copies
@@ -47,7 +47,7 @@ merged options (first ∷ second ∷ digests) = By (laid options.merging options
 -- an operation on the trees of these places
 abbrev pub made_on : Options → List (Option (List ℕ)) → Op → Made
 made_on options places (SourceOp source) = source_made options source
-made_on options places (ExecOp exec) = By (op_on (Some options.platform) (inputs_of places) (ExecKind (exec_of options.commands places exec)))
+made_on options places (ExecOp exec) = By (op_on (Some options.platform) (inputs_of places) (ExecKind (exec_of options.network places exec)))
 made_on options places (CopyOp files) = By (op_on (Some options.platform) (inputs_of places) (FileKind (record { actions = copied files places })))
 made_on options places (MakeDirsOp []) = Same (slice_index_or places 0 None)
 made_on options places (MakeDirsOp (name ∷ names)) =

@@ -33,26 +33,17 @@ abbrev pub description_of : Option (List ℕ) → List (List ℕ × List ℕ)
 description_of None = []
 description_of (Some name) = (codes "llb.customname", name) ∷ []
 
--- an operation of this name, which may have to be made anew
-unfoldable pub metadata_of : Option (List ℕ) → Bool → Op → OpMetadata
-metadata_of name is_fresh op = record { ignore_cache = is_fresh; description = description_of name; caps = kind_caps op.kind }
+-- an operation of this name
+unfoldable pub metadata_of : Option (List ℕ) → Op → OpMetadata
+metadata_of name op = record { ignore_cache = false; description = description_of name; caps = kind_caps op.kind }
 
 -- whether some operation is described
 abbrev pub some_described : List (List ℕ × OpMetadata) → Bool
 some_described [] = false
 some_described (entry ∷ entries) = not (length entry.1.description == 0) || some_described entries
 
--- whether some operation is made anew
-abbrev pub some_anew : List (List ℕ × OpMetadata) → Bool
-some_anew [] = false
-some_anew (entry ∷ entries) = entry.1.ignore_cache || some_anew entries
-
--- the end, after operations of which this is said: an engine has to be capable of descriptions, and of making anew, if there are some (BuildKit,
--- `Marshal` in client/llb/state.go)
+-- the end, after operations of which this is said: an engine has to be capable of descriptions, if there are some (BuildKit, `Marshal` in
+-- client/llb/state.go)
 unfoldable pub end_metadata : List (List ℕ × OpMetadata) → OpMetadata
 end_metadata entries =
-    record {
-      ignore_cache = false;
-      description = [];
-      caps = with_cap (some_anew entries) (codes "meta.ignorecache") (with_cap (some_described entries) (codes "meta.description") (kind_caps End));
-    }
+    record { ignore_cache = false; description = []; caps = with_cap (some_described entries) (codes "meta.description") (kind_caps End) }

@@ -1,16 +1,15 @@
 -- The order of a definition's operations, and of what something is said (BuildKit's LLB, `Definition`).
-use Rattle.std.specs.Prelude.{◌≡◌, ◌⊎◌, ℕ, Option, Some, None, List, [], ◌∷◌, ◌++◌, IsSome}
+use Rattle.std.specs.Prelude.{◌≡◌, ℕ, None, List, [], ◌∷◌, ◌++◌, IsSome}
 use Rattle.std.specs.List.{AllByRecursion}
 use Rattle.std.specs.Map.{lookup, keys_of}
 use Rattle.std.specs.BTreeMap.{is_at}
 use Rattle.paths.specs.Order.{name_cmp}
 use Rattle.llbmessages.specs.declared.op.Op.{Op}
-use Rattle.llbmessages.specs.declared.places.SourceMap.{SourceMap}
 use Rattle.llbmessages.specs.declared.definition.Definition.{Definition}
 use Rattle.llbmessages.specs.Op.{op_bytes}
 use Rattle.exported.specs.Places.{digest_of}
 use Rattle.exported.specs.Operations.{end_op}
-use Rattle.exported.specs.Exporting.{op_at, nothing}
+use Rattle.exported.specs.Exporting.{op_at}
 
 -- the bytes of an operation, each input of which is the digest of one of these
 abbrev pub IsOn : List (List ℕ) → List ℕ → Type 0
@@ -26,22 +25,12 @@ abbrev pub AreApart : List (List ℕ) → List (List ℕ) → Type 0
 AreApart before [] = Unit {0}
 AreApart before (bytes ∷ ops) = (op_at before (digest_of bytes) ≡ None) × AreApart (before ++ bytes ∷ []) ops
 
--- a definition has nothing at all, or it has an end, and the operations before that have digests of their own
+-- the operations before the end of a definition have digests of their own
 abbrev pub AreApartToTheEnd : Definition → Type 0
 AreApartToTheEnd definition =
-    (definition ≡ nothing)
-    ⊎ ((ops : List (List ℕ)) × ((digest : List ℕ) × ((definition.ops ≡ ops ++ op_bytes (end_op digest) ∷ []) × AreApart [] ops)))
+    (ops : List (List ℕ)) × ((digest : List ℕ) × ((definition.ops ≡ ops ++ op_bytes (end_op digest) ∷ []) × AreApart [] ops))
 
 -- something is said of the digest of each operation, and of no other
 pub record IsSaid (definition : Definition) : Type 0 where
   pub each : AllByRecursion (λ bytes. IsSome (lookup (is_at (name_cmp (digest_of bytes))) definition.metadata)) definition.ops
   pub only : AllByRecursion (λ digest. IsSome (op_at definition.ops digest)) (keys_of definition.metadata)
-
--- what stands in files are some of these operations, if files are given
-abbrev pub AreOf : List (List ℕ) → Option SourceMap → Type 0
-AreOf ops None = Unit {0}
-AreOf ops (Some source) = AllByRecursion (λ digest. IsSome (op_at ops digest)) (keys_of source.locations)
-
--- what stands in files are operations of the definition
-abbrev pub IsLocated : Definition → Type 0
-IsLocated definition = AreOf definition.ops definition.source

@@ -16,15 +16,12 @@ abbrev pub with_follows : Option (List ℕ) → List (List ℕ × List ℕ) → 
 with_follows None entries = entries
 with_follows (Some patterns) entries = entries ++ (codes "local.followpaths", patterns) ∷ []
 
--- the attributes of the files that a build is given, from a client's folder of this name. What an engine keeps of it serves other folders of the
--- name, too (`local.sharedkeyhint`; BuildKit, `MainContext` in frontend/dockerui/context.go). `local.unique` tells builds apart that run at the same
--- time with other files, which an engine would take for one
-abbrev pub context_entries : List ℕ → List ℕ → Option (List ℕ) → Option (List ℕ) → List (List ℕ × List ℕ)
-context_entries name unique excludes follows =
-    (with_follows follows (exclude_entries excludes) ++ (codes "local.sharedkeyhint", name) ∷ []) ++ (codes "local.unique", unique) ∷ []
+-- the attributes of the files that a build is given. `local.unique` tells builds apart that run at the same time with other files, which an engine
+-- would take for one
+abbrev pub context_entries : List ℕ → Option (List ℕ) → Option (List ℕ) → List (List ℕ × List ℕ)
+context_entries unique excludes follows =
+    (with_follows follows (exclude_entries excludes) ++ (codes "local.sharedkeyhint", codes "context") ∷ []) ++ (codes "local.unique", unique) ∷ []
 
--- the files that a build is given, which are a client's folder of this name, without those of some patterns, and of the others only those of some
--- other patterns
-unfoldable pub context_source : List ℕ → List ℕ → Option (List ℕ) → Option (List ℕ) → SourceOp
-context_source name unique excludes follows =
-    record { identifier = codes "local://" ++ name; attrs = context_entries name unique excludes follows }
+-- the files that a build is given, without those of some patterns, and of the others only those of some other patterns
+unfoldable pub context_source : List ℕ → Option (List ℕ) → Option (List ℕ) → SourceOp
+context_source unique excludes follows = record { identifier = codes "local://context"; attrs = context_entries unique excludes follows }

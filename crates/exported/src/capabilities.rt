@@ -3,11 +3,11 @@
 ghost use Rattle.std.specs.Prelude.{◌≡◌, ◌++◌, [], true, IfOk, codes, nat_eq};
 ghost use Rattle.std.specs.List.{starts_with};
 ghost use Rattle.std.specs.String.{string_bytes};
-ghost use Rattle.exported.specs.Capabilities.{with_cap, attribute_caps, source_caps, is_chosen, mount_kind_caps, mount_caps, mounts_caps, meta_caps, exec_caps, kind_caps};
-ghost use Rattle.llbmessages.specs.declared.exec.MountKind.TheVariants.{Bind as BindMount};
+ghost use Rattle.exported.specs.Capabilities.{with_cap, attribute_caps, source_caps, is_chosen, mount_kind_caps, mount_caps, mounts_caps, exec_caps, kind_caps};
+ghost use Rattle.llbmessages.specs.declared.exec.MountKind.TheVariants.{Bind as BindMount, Cache as CacheMount};
 ghost use Rattle.llbmessages.specs.declared.op.OpKind.TheVariants.{End as EndKind};
 
-use llbmessages::{ExecOp, Meta, Mount, MountKind, Network, OpKind, SourceOp};
+use llbmessages::{ExecOp, Mount, MountKind, Network, OpKind, SourceOp};
 use plain::{Memory, Text};
 use std::alloc::Global;
 use std::collections::BTreeMap;
@@ -102,10 +102,6 @@ fn mount_kind_caps(alloc: Global, caps: Caps, mount: &Mount) -> Result<Caps, Mem
             let caps = with_cap(alloc, caps, true, "exec.mount.cache")?;
             with_cap(alloc, caps, true, "exec.mount.cache.sharing")
         }
-        MountKind::Tmpfs(tmpfs) => {
-            let caps = with_cap(alloc, caps, true, "exec.mount.tmpfs")?;
-            with_cap(alloc, caps, 0 < tmpfs.size, "exec.mount.tmpfs.size")
-        }
     }
 }
 
@@ -130,17 +126,6 @@ fn mounts_caps(alloc: Global, caps: Caps, mounts: &[Mount]) -> Result<Caps, Memo
     Ok(caps)
 }
 
-/// Capabilities with those of what a command runs with. Names of machines are none, nor is what is left of mounts.
-#[tactic(auto, unfolding(crate::specs::Capabilities::meta_caps))]
-fn meta_caps(alloc: Global, caps: Caps, meta: &Meta) -> Result<Caps, Memory>
-    ensures { IfOk result (λ more. more.entries ≡ meta_caps meta.now caps.entries) }
-{
-    let caps = with_cap(alloc, caps, meta.proxy.is_some(), "exec.meta.proxyenv")?;
-    let caps = with_cap(alloc, caps, !meta.limits.is_empty(), "exec.meta.ulimit")?;
-    let has_group = !meta.cgroup_parent.as_str().is_empty();
-    with_cap(alloc, caps, has_group, "exec.meta.cgroup.parent")
-}
-
 /// The capabilities of a command.
 #[tactic(auto, unfolding(crate::specs::Capabilities::exec_caps))]
 fn exec_caps(alloc: Global, exec: &ExecOp) -> Result<Caps, Memory>
@@ -148,7 +133,6 @@ fn exec_caps(alloc: Global, exec: &ExecOp) -> Result<Caps, Memory>
 {
     let caps = one_cap(alloc, "exec.meta.base")?;
     let caps = with_cap(alloc, caps, is_chosen(exec.network), "exec.meta.network")?;
-    let caps = meta_caps(alloc, caps, &exec.meta)?;
     mounts_caps(alloc, caps, exec.mounts.as_slice())
 }
 

@@ -46,7 +46,6 @@ fn chain_input(trees: usize, number: usize) -> Result<i64, Memory>
     if number == 0 {
         return Ok(0);
     }
-    // Both count digests that stand in memory, so their sum is far below what overflows: no proof knows how large a text is, and this can't be met.
     match trees.checked_add(number - 1) {
         Some(made) => index(made),
         None => Err(Memory),

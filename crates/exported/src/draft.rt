@@ -7,7 +7,7 @@ ghost use Rattle.llbmessages.specs.Op.{op_bytes};
 ghost use Rattle.exported.specs.Places.{digest_of};
 ghost use Rattle.exported.specs.Operations.{end_op};
 ghost use Rattle.exported.specs.Metadata.{end_metadata};
-ghost use Rattle.exported.specs.Exporting.{said_at, is_anew, again, with_op, placed, nothing, ended_at};
+ghost use Rattle.exported.specs.Exporting.{with_op, placed, nothing, ended_at};
 ghost use Rattle.exported.specs.PrivateExporting.{Changes, Gives};
 ghost use Rattle.exported.specs.declared.making.Made.TheVariants.{By as MadeBy};
 
@@ -16,7 +16,7 @@ use crate::operations::end_op;
 use crate::ops::Ops;
 use crate::places::digest_of;
 use crate::{ExportFault, Obstacle};
-use llbmessages::{Definition, Op, OpMetadata, SourceMap};
+use llbmessages::{Definition, Op, OpMetadata};
 use plain::{Bytes, Exact, Fault, Items, Memory, Text};
 use std::alloc::Global;
 use std::collections::BTreeMap;
@@ -26,7 +26,7 @@ use wire::Map;
 /// What is said of operations, by their digests.
 type Metadata = BTreeMap<Text, OpMetadata>;
 
-/// A definition that is being made: its operations so far, and what is said of each. Where they stand isn't known yet.
+/// A definition that is being made: its operations so far, and what is said of each.
 #[derive(Drop)]
 pub(crate) struct Draft {
     ops: Ops,
@@ -34,12 +34,11 @@ pub(crate) struct Draft {
 }
 
 impl Model for Draft {
-    ghost use Rattle.std.specs.Prelude.{None};
     ghost use Rattle.llbmessages.specs.declared.definition.Definition.{Definition};
 
     ghost Value = { Definition };
 
-    ghost view = { λ d. record { ops = d.ops; metadata = d.metadata.entries; source = None } };
+    ghost view = { λ d. record { ops = d.ops; metadata = d.metadata.entries } };
 }
 
 impl Draft {
@@ -70,7 +69,10 @@ impl Draft {
                 say(alloc, &mut self.metadata, digest, said)?;
                 Ok(self.ops.push(alloc, digest, bytes)?)
             }
-            Some(true) => Ok(say_again(alloc, &mut self.metadata, digest, said)?),
+            Some(true) => {
+                drop(said);
+                Ok(())
+            }
             Some(false) => {
                 drop(said);
                 Err(Fault::Because(Obstacle::Clash(number)))
@@ -78,64 +80,37 @@ impl Draft {
         }
     }
 
-    /// Adds an operation of this name, which may have to be made anew, if it isn't there, and answers its place; `number` is that of its vertex.
+    /// Adds an operation of this name, if it isn't there, and answers its place; `number` is that of its vertex.
     pub(crate) fn add(
         &mut self,
         alloc: Global,
         number: usize,
         op: &Op,
         name: &Option<Text>,
-        is_fresh: bool,
     ) -> Result<Option<Text>, ExportFault>
-        ensures { Gives (placed number self.old name.now is_fresh (MadeBy op.now)) self.new result }
+        ensures { Gives (placed number self.old name.now (MadeBy op.now)) self.new result }
     {
         let bytes = op.to_bytes(alloc)?;
         let digest = digest_of(alloc, bytes.as_slice())?;
-        let said = metadata_of(alloc, name, is_fresh, op)?;
+        let said = metadata_of(alloc, name, op)?;
         self.add_bytes(alloc, number, &digest, bytes, said)?;
         Ok(Some(digest))
     }
 
-    /// The definition with its end, where the operation of this digest has the result, and with where its operations stand.
+    /// The definition with its end, where the operation of this digest has the result.
     #[tactic(auto, unfolding(crate::specs::Exporting::ended_at))]
-    pub(crate) fn end(
-        self,
-        alloc: Global,
-        digest: &Text,
-        source: Option<SourceMap>,
-    ) -> Result<Definition, Memory>
-        ensures { IfOk result (λ definition. definition ≡ ended_at source self digest.now) }
+    pub(crate) fn end(self, alloc: Global, digest: &Text) -> Result<Definition, Memory>
+        ensures { IfOk result (λ definition. definition ≡ ended_at self digest.now) }
     {
-        match ended_parts(alloc, self, digest) {
-            Ok((ops, metadata)) => Ok(Definition {
-                ops,
-                metadata,
-                source,
-            }),
+        let end = end_op(alloc, digest)?.to_bytes(alloc)?;
+        let Draft { ops, metadata } = self;
+        let metadata = ended_metadata(alloc, metadata, end.as_slice())?;
+        match ended_ops(ops, end) {
+            Ok(ops) => Ok(Definition { ops, metadata }),
             Err(memory) => {
-                drop(source);
+                drop(metadata);
                 Err(memory)
             }
-        }
-    }
-}
-
-/// The operations with the end, where the operation of this digest has the result, and what is said of them.
-fn ended_parts(
-    alloc: Global,
-    draft: Draft,
-    digest: &Text,
-) -> Result<(Items<Bytes>, Map<OpMetadata>), Memory>
-    ensures { IfOk result (λ parts. parts ≡ (draft.ops ++ op_bytes (end_op digest.now) ∷ [], insert_entry name_cmp draft.metadata (digest_of (op_bytes (end_op digest.now))) (end_metadata draft.metadata))) }
-{
-    let end = end_op(alloc, digest)?.to_bytes(alloc)?;
-    let Draft { ops, metadata } = draft;
-    let metadata = ended_metadata(alloc, metadata, end.as_slice())?;
-    match ended_ops(ops, end) {
-        Ok(ops) => Ok((ops, metadata)),
-        Err(memory) => {
-            drop(metadata);
-            Err(memory)
         }
     }
 }
@@ -159,32 +134,6 @@ fn say(
             Err(memory)
         }
     }
-}
-
-/// Whether the operation of a digest is said to be made anew.
-fn is_anew(metadata: &Metadata, digest: &Text) -> bool
-    ensures { result ≡ is_anew (said_at metadata.now.entries digest.now) }
-{
-    match metadata.get(digest) {
-        Some(said) => said.ignore_cache,
-        None => false,
-    }
-}
-
-/// Says this of an operation that is there. What was said before stays, unless only now it is to be made anew.
-fn say_again(
-    alloc: Global,
-    metadata: &mut Metadata,
-    digest: &Text,
-    said: OpMetadata,
-) -> Result<(), Memory>
-    ensures { OnOk result (metadata.new.entries ≡ again metadata.old.entries digest.now said) }
-{
-    if said.ignore_cache && !is_anew(metadata, digest) {
-        return say(alloc, metadata, digest, said);
-    }
-    drop(said);
-    Ok(())
 }
 
 /// The operations with the end.

@@ -1,28 +1,25 @@
 // A plan as a definition.
 
-ghost use Rattle.std.specs.Prelude.{◌≡◌, ◌<◌, [], None, false, length, IfOk, slice_index_or};
-ghost use Rattle.exported.specs.Exporting.{is_carried, is_carried_escape, are_carried, can_exclude, is_speakable, placed, vertex_placed, root_op, ended_empty, exported, IsExported};
-ghost use Rattle.exported.specs.declared.making.Empty.TheVariants.{Root};
+ghost use Rattle.std.specs.Prelude.{◌≡◌, [], None, false, IfOk, slice_index_or};
+ghost use Rattle.llb.specs.Places.{least_line};
+ghost use Rattle.exported.specs.Exporting.{is_carried, is_carried_escape, are_carried, can_exclude, is_speakable, placed, vertex_placed, root_op, ended, exported, IsExported};
 ghost use Rattle.exported.specs.PrivateExporting.{Gives, Tells};
 
 use crate::draft::Draft;
 use crate::files::make_dir_op;
-use crate::fresh::is_fresh;
-use crate::located::{id_at, source_of};
-use crate::making::{Empty, Made, Options, vertex_made};
+use crate::making::{Made, Options, vertex_made};
 use crate::metadata::vertex_name;
 use crate::{ExportFault, Obstacle};
 use llb::{Graph, Op as Work, Source, Vertex, VertexId};
-use llbmessages::{Definition, Op, SourceMap};
+use llbmessages::{Definition, Op};
 use paths::Path;
 use plain::{Bytes, Exact, Fault, Items, Memory, Text};
 use plans::Plan;
 use std::alloc::Global;
-use wire::Map;
 
 /// A plan as a definition of BuildKit's LLB: the bytes of just its operations, each once and after its inputs, of an end that names the
-/// target's tree, and of what is said of each: what an engine has to be capable of, what progress calls it, whether it is made anew, and
-/// where in the Dockerfile it stands, if the options have it. They are read as that definition and nothing else.
+/// target's tree, and of what is said of each: what an engine has to be capable of, and what progress calls it. They are read as that
+/// definition and nothing else.
 ///
 /// `names` has at the number of a line what progress calls the instruction of that line, if it has a name; a vertex is called as the
 /// instruction of the least of its lines.
@@ -53,62 +50,68 @@ fn definition_of(
     let mut places = Items::new(alloc);
     let mut draft = Draft::new(alloc);
     for vertex in graph.vertices() {
+        let line = line_of(graph, places.len())?;
         let place = add_vertex(
             alloc,
             options,
             names,
-            graph,
+            line,
             places.as_slice(),
             &mut draft,
             vertex,
         )?;
         places.push(place)?;
     }
-    let source = source_of(alloc, &options.source, graph, places.as_slice())?;
     match places.as_slice().get(wanted.index()) {
-        Some(Some(digest)) => Ok(draft.end(alloc, digest, source)?),
-        Some(None) | None => ended_empty(alloc, options, graph.len(), source, draft),
+        Some(Some(digest)) => Ok(draft.end(alloc, digest)?),
+        Some(None) | None => ended_empty(alloc, options, graph.len(), draft),
     }
 }
 
-/// Adds the operation of the vertex of a graph that follows those at these places, and answers its place.
+/// The least line behind the vertex of this number.
+fn line_of(graph: &Graph, number: usize) -> Result<u32, Memory>
+    ensures { IfOk result (λ line. line ≡ least_line (slice_index_or graph.now.places number [])) }
+{
+    match u32::try_from(number) {
+        Ok(number) => Ok(graph.least_place(VertexId::new(number))),
+        Err(_) => Err(Memory),
+    }
+}
+
+/// Adds the operation of a vertex, whose least line this is, and answers its place.
 #[tactic(auto, unfolding(crate::specs::Exporting::vertex_placed))]
 fn add_vertex(
     alloc: Global,
     options: &Options,
     names: &[Option<Text>],
-    graph: &Graph,
+    line: u32,
     places: &[Option<Text>],
     draft: &mut Draft,
     vertex: &Vertex,
 ) -> Result<Option<Text>, ExportFault>
-    requires { length places.now < length graph.now.vertices }
-    ensures { Gives (vertex_placed options.now names.now (slice_index_or graph.now.places (length places.now) []) places.now draft.old vertex.now) draft.new result }
+    ensures { Gives (vertex_placed options.now names.now line places.now draft.old vertex.now) draft.new result }
 {
     if !is_speakable(options, &vertex.op) {
         return Err(Fault::Because(Obstacle::Unspeakable(places.len())));
     }
-    let id = id_at(graph, places.len());
     let made = vertex_made(alloc, options, places, vertex)?;
-    let name = vertex_name(alloc, names, graph.least_place(id), &vertex.op)?;
-    let is_fresh = is_fresh(&options.no_cache, graph.places(id), &vertex.op);
-    add_made(alloc, places.len(), draft, &made, &name, is_fresh)
+    let name = vertex_name(alloc, names, line, &vertex.op)?;
+    add_made(alloc, places.len(), draft, &made, &name)
 }
 
-/// Adds the operation that a vertex of this number and name is, which may have to be made anew, and answers its place.
+/// Adds the operation that a vertex of this number and name is, and answers its place.
 fn add_made(
     alloc: Global,
     number: usize,
     draft: &mut Draft,
     made: &Made,
     name: &Option<Text>,
-    is_fresh: bool,
 ) -> Result<Option<Text>, ExportFault>
-    ensures { Gives (placed number draft.old name.now is_fresh made.now) draft.new result }
+    ensures { Gives (placed number draft.old name.now made.now) draft.new result }
 {
     match made {
         Made::Same(place) => Ok(place.copy(alloc)?),
-        Made::By(op) => draft.add(alloc, number, op, name, is_fresh),
+        Made::By(op) => draft.add(alloc, number, op, name),
     }
 }
 
@@ -177,44 +180,19 @@ fn root_op(alloc: Global, options: &Options) -> Result<Op, Memory>
     make_dir_op(alloc, &options.platform, &[], &Path::root(alloc))
 }
 
-/// A definition whose end names the root of an empty tree; `number` is how many vertices there are.
-fn ended_root(
-    alloc: Global,
-    options: &Options,
-    number: usize,
-    source: Option<SourceMap>,
-    draft: Draft,
-) -> Result<Definition, ExportFault>
-    ensures { Tells (ended_empty Root options.now number source draft) result }
-{
-    let mut draft = draft;
-    let root = root_op(alloc, options)?;
-    match draft.add(alloc, number, &root, &None, false)? {
-        Some(digest) => Ok(draft.end(alloc, &digest, source)?),
-        None => unreachable!(),
-    }
-}
-
-/// The definition whose result is the empty tree; `number` is how many vertices there are.
+/// A definition with its end, whose result is the empty tree; `number` is how many vertices there are.
 fn ended_empty(
     alloc: Global,
     options: &Options,
     number: usize,
-    source: Option<SourceMap>,
     draft: Draft,
 ) -> Result<Definition, ExportFault>
-    ensures { Tells (ended_empty options.now.empty options.now number source draft) result }
+    ensures { Tells (ended options.now number draft None) result }
 {
-    match options.empty {
-        Empty::Root => ended_root(alloc, options, number, source, draft),
-        Empty::Nothing => {
-            drop(source);
-            drop(draft);
-            Ok(Definition {
-                ops: Items::new(alloc),
-                metadata: Map::new(alloc),
-                source: None,
-            })
-        }
+    let mut draft = draft;
+    let root = root_op(alloc, options)?;
+    match draft.add(alloc, number, &root, &None)? {
+        Some(digest) => Ok(draft.end(alloc, &digest)?),
+        None => unreachable!(),
     }
 }

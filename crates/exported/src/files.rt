@@ -258,11 +258,10 @@ fn push_source(
     }
 }
 
-/// One more.
+/// One more; so many actions fit no memory.
 pub(crate) fn after(number: usize) -> Result<usize, Memory>
     ensures { IfOk result (λ next. next ≡ number + 1) }
 {
-    // It counts inputs and actions, all of which stand in memory, so it never overflows. No proof knows how large they are.
     match number.checked_add(1) {
         Some(next) => Ok(next),
         None => Err(Memory),

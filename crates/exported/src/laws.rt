@@ -4,7 +4,7 @@ ghost use Rattle.llb.specs.Graph.{GraphValue};
 ghost use Rattle.llbmessages.specs.declared.definition.Definition.{Definition};
 ghost use Rattle.exported.specs.declared.making.Options.{Options as Chosen};
 ghost use Rattle.exported.specs.Exporting.{exported};
-ghost use Rattle.exported.specs.Order.{AreInOrder, AreApartToTheEnd, IsSaid, IsLocated};
+ghost use Rattle.exported.specs.Order.{AreInOrder, AreApartToTheEnd, IsSaid};
 
 /// Each input of an operation is the digest of an operation before it.
 pub fn inputs_stand_before()
@@ -12,7 +12,7 @@ pub fn inputs_stand_before()
         → exported options names graph wanted ≡ Ok definition → AreInOrder [] definition.ops }
 {}
 
-/// No operation before the end has the digest of another; or there is nothing at all.
+/// No operation before the end has the digest of another.
 pub fn digests_are_apart()
     ensures { (options : Chosen) (names : List (Option (List ℕ))) (graph : GraphValue) (wanted : ℕ) (definition : Definition)
         → exported options names graph wanted ≡ Ok definition → AreApartToTheEnd definition }
@@ -22,10 +22,4 @@ pub fn digests_are_apart()
 pub fn each_operation_is_spoken_of()
     ensures { (options : Chosen) (names : List (Option (List ℕ))) (graph : GraphValue) (wanted : ℕ) (definition : Definition)
         → exported options names graph wanted ≡ Ok definition → IsSaid definition }
-{}
-
-/// Lines of a file are said of operations of the definition, and of nothing else.
-pub fn lines_are_of_operations()
-    ensures { (options : Chosen) (names : List (Option (List ℕ))) (graph : GraphValue) (wanted : ℕ) (definition : Definition)
-        → exported options names graph wanted ≡ Ok definition → IsLocated definition }
 {}

@@ -3,13 +3,12 @@
 // Each vertex of a graph is an operation here, or the tree of another vertex: a source, a folder that is made, a COPY, a command with its mounts,
 // a merge; and there is the end, which names the result. A call for one operation is given what the vertex holds and where the trees of its
 // inputs are: the digest of an operation, or none for the empty tree, which no operation makes. `export` goes over a whole plan: it gives each
-// operation once, and the end, and says of each what an engine has to be capable of, what progress is to call it, whether it is made anew, and
-// where in the Dockerfile it stands.
+// operation once, and the end, and says of each what an engine has to be capable of, and what progress is to call it. Where in a file it stands
+// isn't said.
 //
 // The central definition is `exported` in specs/Exporting.antt, over `vertex_made` in specs/Making.antt and those of each kind: `copied` in
 // specs/Files.antt, `exec_of` in specs/Commands.antt. They speak of inputs by the numbers of specs/Places.antt. What is said of an operation is
-// `metadata_of` in specs/Metadata.antt, over `kind_caps` in specs/Capabilities.antt and `is_fresh` in specs/Fresh.antt, and where it stands
-// `source_of` in specs/Located.antt. What BuildKit is told of a pattern is `source_path` in
+// `metadata_of` in specs/Metadata.antt, over `kind_caps` in specs/Capabilities.antt. What BuildKit is told of a pattern is `source_path` in
 // specs/Patterns.antt, of an image `pinned_name` in specs/Names.antt, and of files that are left out `exclude_list` in specs/Excluding.antt.
 // Bytes are the matter of `llbmessages`.
 //
@@ -29,9 +28,7 @@ mod exporting;
 mod fault;
 mod files;
 mod following;
-mod fresh;
 pub mod laws;
-mod located;
 mod making;
 mod merges;
 mod metadata;
@@ -43,15 +40,13 @@ mod places;
 mod sources;
 
 pub use chains::chain_op;
-pub use commands::{CommandOptions, exec_op};
+pub use commands::exec_op;
 pub use excluding::exclude_list;
 pub use exporting::export;
 pub use fault::{ExportFault, Obstacle};
 pub use files::{copy_op, make_dir_op};
 pub use following::follow_list;
-pub use fresh::{FreshStages, NoCache};
-pub use located::SourceFile;
-pub use making::{Empty, Made, Merging, Options, vertex_made};
+pub use making::{Made, Merging, Options, vertex_made};
 pub use merges::{merge_op, trees_at};
 pub use operations::end_op;
 pub use places::digest_of;

@@ -7,14 +7,12 @@ ghost use Rattle.exported.specs.Merges.{trees_at as trees_of};
 ghost use Rattle.exported.specs.Making.{places_at, laid, merged, source_made, made_on, vertex_made};
 
 use crate::chains::chain_op;
-use crate::commands::{CommandOptions, exec_op};
+use crate::commands::exec_op;
 use crate::files::{copy_op, make_dir_op};
-use crate::fresh::NoCache;
-use crate::located::SourceFile;
 use crate::merges::{merge_op, trees_at};
 use crate::sources::{context_op, image_op};
 use llb::{Op, Source, Vertex, VertexId};
-use llbmessages::{Op as Operation, Platform};
+use llbmessages::{Network, Op as Operation, Platform};
 use named::NamedRows;
 use paths::Path;
 use plain::{Exact, Items, Memory, Text};
@@ -25,26 +23,18 @@ use std::alloc::Global;
 pub struct Options {
     /// The platform that images are taken of, and on which commands run.
     pub platform: Platform,
-    /// What every command is given beside what its instruction says.
-    pub commands: CommandOptions,
-    /// What the client calls the folder of the build's files: `context`, if it has no other name.
-    pub context: Text,
+    /// The network of every command.
+    pub network: Network,
     /// A text that no other build has which may run at the same time with other files.
     pub unique: Text,
     /// What a merge of trees is.
     pub merging: Merging,
-    /// What an empty tree is as the result.
-    pub empty: Empty,
     /// The digests that pin the names of images, by these names.
     pub digests: NamedRows<Text>,
     /// The files that the build isn't given: a JSON list of patterns.
     pub excludes: Option<Text>,
     /// Of the others, those that the build is given: a JSON list of patterns. `None` is all of them.
     pub follows: Option<Text>,
-    /// Of which operations no known result is taken.
-    pub no_cache: NoCache,
-    /// The Dockerfile, if the definition says where its operations stand in it.
-    pub source: Option<SourceFile>,
 }
 
 /// What a merge of trees is.
@@ -54,15 +44,6 @@ pub enum Merging {
     Native,
     /// An operation of files, which any BuildKit knows: copies of trees, one onto the other.
     Chain,
-}
-
-/// What an empty tree is as the result of a definition.
-#[derive(Clone, Copy, Debug, PartialEq, Eq)]
-pub enum Empty {
-    /// An operation that makes its root: BuildKit's clients take no definition without an operation.
-    Root,
-    /// No operation and no end, as BuildKit's own front end hands it to the gateway.
-    Nothing,
 }
 
 /// What a vertex is in a definition.
@@ -134,7 +115,6 @@ fn context_made(alloc: Global, options: &Options) -> Result<Made, Memory>
 {
     let context = context_op(
         alloc,
-        options.context.as_str(),
         options.unique.as_str(),
         &options.excludes,
         &options.follows,
@@ -193,7 +173,7 @@ fn made_on(
         Op::Exec(exec) => Ok(Made::By(exec_op(
             alloc,
             &options.platform,
-            &options.commands,
+            options.network,
             places,
             exec,
         )?)),

@@ -3,7 +3,7 @@
 ghost use Rattle.std.specs.Prelude.{◌≡◌, ◌∷◌, ◌++◌, [], IfOk, Some, codes};
 ghost use Rattle.std.specs.String.{string_bytes};
 ghost use Rattle.exported.specs.Names.{whole_name};
-ghost use Rattle.exported.specs.Metadata.{source_name, vertex_name, description_of, metadata_of, some_described, some_anew, end_metadata};
+ghost use Rattle.exported.specs.Metadata.{source_name, vertex_name, description_of, metadata_of, some_described, end_metadata};
 
 use crate::capabilities::{end_caps, kind_caps, with_cap};
 use crate::making::text_at;
@@ -84,20 +84,15 @@ fn description_of(alloc: Global, name: &Option<Text>) -> Result<Map<Text>, Memor
     }
 }
 
-/// What is said of an operation of this name, which may have to be made anew.
+/// What is said of an operation of this name.
 #[tactic(auto, unfolding(crate::specs::Metadata::metadata_of))]
-pub(crate) fn metadata_of(
-    alloc: Global,
-    name: &Option<Text>,
-    is_fresh: bool,
-    op: &Op,
-) -> Result<OpMetadata, Memory>
-    ensures { IfOk result (λ said. said ≡ metadata_of name.now is_fresh op.now) }
+pub(crate) fn metadata_of(alloc: Global, name: &Option<Text>, op: &Op) -> Result<OpMetadata, Memory>
+    ensures { IfOk result (λ said. said ≡ metadata_of name.now op.now) }
 {
     let caps = Map::from_sorted(alloc, kind_caps(alloc, &op.kind)?)?;
     match description_of(alloc, name) {
         Ok(description) => Ok(OpMetadata {
-            ignore_cache: is_fresh,
+            ignore_cache: false,
             description,
             caps,
         }),
@@ -120,18 +115,6 @@ fn some_described(metadata: &BTreeMap<Text, OpMetadata>) -> bool
     false
 }
 
-/// Whether some operation is made anew.
-fn some_anew(metadata: &BTreeMap<Text, OpMetadata>) -> bool
-    ensures { result ≡ some_anew metadata.now.entries }
-{
-    for (_, said) in metadata.iter() {
-        if said.ignore_cache {
-            return true;
-        }
-    }
-    false
-}
-
 /// What is said of the end, after operations of which this is said.
 #[tactic(auto, unfolding(crate::specs::Metadata::end_metadata))]
 pub(crate) fn end_metadata(
@@ -142,7 +125,6 @@ pub(crate) fn end_metadata(
 {
     let caps = end_caps(alloc)?;
     let caps = with_cap(alloc, caps, some_described(metadata), "meta.description")?;
-    let caps = with_cap(alloc, caps, some_anew(metadata), "meta.ignorecache")?;
     let caps = Map::from_sorted(alloc, caps)?;
     Ok(OpMetadata {
         ignore_cache: false,

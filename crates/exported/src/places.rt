@@ -58,7 +58,7 @@ pub(crate) fn inputs_of(alloc: Global, places: &[Option<Text>]) -> Result<Items<
 pub(crate) fn index(number: usize) -> Result<i64, Memory>
     ensures { IfOk result (λ index. index ≡ pos number) }
 {
-    // It counts what stands in memory, where fewer bytes fit than an i64 counts, so it always fits. No proof knows how large a value is.
+    // So many values as other numbers would count fit no memory.
     match i64::try_from(number) {
         Ok(index) => Ok(index),
         Err(_) => Err(Memory),

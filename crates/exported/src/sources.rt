@@ -110,41 +110,30 @@ fn choosing(
 /// The attributes of the files that a build is given.
 fn context_attributes(
     alloc: Global,
-    name: &str,
     unique: &str,
     excludes: &Option<Text>,
     follows: &Option<Text>,
 ) -> Result<Map<Text>, Memory>
-    ensures { IfOk result (λ attrs. attrs ≡ context_entries name.now unique.now excludes.now follows.now) }
+    ensures { IfOk result (λ attrs. attrs ≡ context_entries unique.now excludes.now follows.now) }
 {
     let attrs = choosing(alloc, excludes, follows)?;
-    let attrs = with_attribute(alloc, attrs, "local.sharedkeyhint", name)?;
+    let attrs = with_attribute(alloc, attrs, "local.sharedkeyhint", "context")?;
     with_attribute(alloc, attrs, "local.unique", unique)
 }
 
-/// How BuildKit is told of a client's folder of this name.
-fn local_identifier(alloc: Global, name: &str) -> Result<Text, Memory>
-    ensures { IfOk result (λ identifier. identifier ≡ codes "local://" ++ name.now) }
-{
-    let mut text = String::from_str(alloc, "local://")?;
-    text.push_str(name)?;
-    Ok(Text::from_string(text))
-}
-
-/// The operation of the files that a build is given, which are a client's folder of this name, without those of some patterns, a JSON list,
-/// and of the others only those of some other patterns. Builds that may run at the same time with other files take another `unique` each.
+/// The operation of the files that a build is given, without those of some patterns, a JSON list, and of the others only those of some other
+/// patterns. Builds that may run at the same time with other files take another `unique` each.
 #[tactic(auto, unfolding(crate::specs::Sources::context_source))]
 pub fn context_op(
     alloc: Global,
-    name: &str,
     unique: &str,
     excludes: &Option<Text>,
     follows: &Option<Text>,
 ) -> Result<Op, Memory>
-    ensures { IfOk result (λ op. op ≡ op_on None [] (SourceKind (context_source name.now unique.now excludes.now follows.now))) }
+    ensures { IfOk result (λ op. op ≡ op_on None [] (SourceKind (context_source unique.now excludes.now follows.now))) }
 {
-    let attrs = context_attributes(alloc, name, unique, excludes, follows)?;
-    match local_identifier(alloc, name) {
+    let attrs = context_attributes(alloc, unique, excludes, follows)?;
+    match Text::from_str(alloc, "local://context") {
         Ok(identifier) => op_for_any(alloc, &[], OpKind::Source(SourceOp { identifier, attrs })),
         Err(memory) => {
             drop(attrs);

@@ -18,7 +18,6 @@ use Rattle.exported.specs.declared.fault.Obstacle.{Obstacle}
 use Rattle.exported.specs.declared.fault.Obstacle.TheVariants.{Unspeakable}
 use Rattle.exported.specs.Places.{digest_of}
 use Rattle.exported.specs.Making.{places_at, made_on, vertex_made}
-use Rattle.exported.specs.Fresh.{is_fresh}
 use Rattle.exported.specs.Metadata.{vertex_name, metadata_of}
 use Rattle.exported.specs.Exporting.{and_then, is_speakable, with_op, placed, vertex_placed, all_placed, nothing}
 use Rattle.fileactions.specs.Engine.{place_of, input_places}
@@ -40,27 +39,21 @@ same-step a b e = cc
 
 -- ---- one vertex
 
-placed-at : (number : ℕ) (definition : Definition) (name : Option (List ℕ)) (fresh : Bool) (made : Made) (next : Step) → placed number definition name fresh made ≡ told next → next.0 ≡ place_of made
+placed-at : (number : ℕ) (definition : Definition) (name : Option (List ℕ)) (made : Made) (next : Step) → placed number definition name made ≡ told next → next.0 ≡ place_of made
 unfolding told
-placed-at number definition name fresh (Same place) next e = ap (λ (s : Step). s.0) (sym (same-step (place, definition) next e))
-placed-at number definition name fresh (By op) next e =
-    let parts = and_then-ok (with_op number definition (op_bytes op) (metadata_of name fresh op)) (λ more. Ok (Some (digest_of (op_bytes op)), more)) next e in
+placed-at number definition name (Same place) next e = ap (λ (s : Step). s.0) (sym (same-step (place, definition) next e))
+placed-at number definition name (By op) next e =
+    let parts = and_then-ok (with_op number definition (op_bytes op) (metadata_of name op)) (λ more. Ok (Some (digest_of (op_bytes op)), more)) next e in
     ap (λ (s : Step). s.0) (sym (same-step (Some (digest_of (op_bytes op)), parts.0) next parts.1.1))
 
-vertex-at : (options : Options) (names : List (Option (List ℕ))) (lines : List ℕ) (places : List (Option (List ℕ))) (definition : Definition) (vertex : Vertex) (next : Step)
-    → vertex_placed options names lines places definition vertex ≡ told next → next.0 ≡ place_of (vertex_made options places vertex)
+vertex-at : (options : Options) (names : List (Option (List ℕ))) (line : ℕ) (places : List (Option (List ℕ))) (definition : Definition) (vertex : Vertex) (next : Step)
+    → vertex_placed options names line places definition vertex ≡ told next → next.0 ≡ place_of (vertex_made options places vertex)
 unfolding vertex_placed told
-vertex-at options names lines places definition vertex next e = by (is_speakable options vertex.op) e
+vertex-at options names line places definition vertex next e = by (is_speakable options vertex.op) e
   where
-    name : Option (List ℕ)
-    name = vertex_name names (least_line lines) vertex.op
-
-    fresh : Bool
-    fresh = is_fresh options.no_cache lines vertex.op
-
-    by : (b : Bool) → cond b (placed (length places) definition name fresh (vertex_made options places vertex)) (Err (Unspeakable (length places))) ≡ told next
+    by : (b : Bool) → cond b (placed (length places) definition (vertex_name names line vertex.op) (vertex_made options places vertex)) (Err (Unspeakable (length places))) ≡ told next
         → next.0 ≡ place_of (vertex_made options places vertex)
-    by true is = placed-at (length places) definition name fresh (vertex_made options places vertex) next is
+    by true is = placed-at (length places) definition (vertex_name names line vertex.op) (vertex_made options places vertex) next is
     by false is = cc
 
 -- ---- all vertices
@@ -89,7 +82,7 @@ module _ (options : Options) (names : List (Option (List ℕ))) (lines : List (L
   unfolding all_told
   grows [] places definition known e = ([], ap (λ (k : Known). k.0) (sym (same-known (places, definition) known e)) ∙ sym (append-nil places))
   grows (vertex ∷ vertices) places definition known e =
-      let parts = and_then-ok (vertex_placed options names (slice_index_or lines (length places) []) places definition vertex) (λ next. all_placed options names lines (places ++ next.0 ∷ []) next.1 vertices) known e in
+      let parts = and_then-ok (vertex_placed options names (least_line (slice_index_or lines (length places) [])) places definition vertex) (λ next. all_placed options names lines (places ++ next.0 ∷ []) next.1 vertices) known e in
       let rest = grows vertices (places ++ parts.0.0 ∷ []) parts.0.1 known parts.1.1 in
       (parts.0.0 ∷ rest.0, rest.1 ∙ append_assoc places (parts.0.0 ∷ []) rest.0)
 
@@ -99,11 +92,11 @@ module _ (options : Options) (names : List (Option (List ℕ))) (lines : List (L
   behind [] places definition known e zero vertex at = absurd (true≢false (sym (ap is_some at)))
   behind [] places definition known e (suc j) vertex at = absurd (true≢false (sym (ap is_some at)))
   behind (first ∷ vertices) places definition known e zero vertex at =
-      let own : List ℕ = slice_index_or lines (length places) [] in
-      let parts = and_then-ok (vertex_placed options names own places definition first) (λ next. all_placed options names lines (places ++ next.0 ∷ []) next.1 vertices) known e in
+      let line : ℕ = least_line (slice_index_or lines (length places) []) in
+      let parts = and_then-ok (vertex_placed options names line places definition first) (λ next. all_placed options names lines (places ++ next.0 ∷ []) next.1 vertices) known e in
       let rest = grows vertices (places ++ parts.0.0 ∷ []) parts.0.1 known parts.1.1 in
       let here : parts.0.0 ≡ place_of (vertex_made options places vertex) =
-      vertex-at options names own places definition first parts.0 parts.1.0 ∙ ap (λ v. place_of (vertex_made options places v)) (same_Some first vertex at) in
+      vertex-at options names line places definition first parts.0 parts.1.0 ∙ ap (λ v. place_of (vertex_made options places v)) (same_Some first vertex at) in
       record {
         before = places;
         after = rest.0;
@@ -111,8 +104,8 @@ module _ (options : Options) (names : List (Option (List ℕ))) (lines : List (L
         whole = rest.1 ∙ append_assoc places (parts.0.0 ∷ []) rest.0 ∙ ap (λ p. places ++ p ∷ rest.0) here;
       }
   behind (first ∷ vertices) places definition known e (suc j) vertex at =
-      let own : List ℕ = slice_index_or lines (length places) [] in
-      let parts = and_then-ok (vertex_placed options names own places definition first) (λ next. all_placed options names lines (places ++ next.0 ∷ []) next.1 vertices) known e in
+      let line : ℕ = least_line (slice_index_or lines (length places) []) in
+      let parts = and_then-ok (vertex_placed options names line places definition first) (λ next. all_placed options names lines (places ++ next.0 ∷ []) next.1 vertices) known e in
       let one : length (places ++ parts.0.0 ∷ []) ≡ length places + 1 = length-append places (parts.0.0 ∷ []) in
       let number : length (places ++ parts.0.0 ∷ []) + j ≡ length places + suc j = omega (arith, one) in
       subst (λ n. IsBehind options n vertex known.0) number (behind vertices (places ++ parts.0.0 ∷ []) parts.0.1 known parts.1.1 j vertex at)

@@ -14,10 +14,10 @@ use Rattle.bundle.specs.Digest.{digest_in}
 use Rattle.bundle.specs.Parts.{or_none, dockerfile_in, files_with, files_in, image_with, image_at, image_in, is_image_name, read_with, images_in, no_images, args_in, cache_row, caches_in, named_with, named_in, parts_with, parts_in, parts_within}
 use Rattle.bundle.specs.declared.parts.Parts.{Parts}
 use Rattle.flaws.specs.Looks.{Looks, read_as, optional, required, keys_in, keys, no_other, members_in as found_in, rows}
-use Rattle.flaws.specs.Flaws.{listing_flaw, dockerfile_flaw, config_place, config_flaw, image_flaw, images_flaw, files_flaw, named_flaw, bundle_flaw, json_flaw, flaw_within}
+use Rattle.flaws.specs.Flaws.{listing_flaw, dockerfile_flaw, image_flaw, images_flaw, files_flaw, named_flaw, bundle_flaw, json_flaw, flaw_within}
 use Rattle.flaws.specs.declared.flaw.Flaw.{Flaw}
 use Rattle.flaws.specs.declared.flaw.Flaw.TheVariants.{TooLong, NoText, At}
-use Rattle.flaws.proofs.LookFacts.{fine, Suits, both, and_false, and_true, fine-or_else, fine-last, fine-map, fine-if, fine-read_as, fine-optional, fine-or_none, fine-required, fine-keys_of, fine-no_other, fine-among_members, fine-rows, some-map}
+use Rattle.flaws.proofs.LookFacts.{fine, Suits, both, and_false, and_true, fine-or_else, fine-last, fine-map, fine-read_as, fine-optional, fine-or_none, fine-required, fine-keys_of, fine-no_other, fine-among_members, fine-rows, some-map}
 use Rattle.flaws.proofs.EntryFacts.{fine-listing, fine-dockerfile}
 
 -- ---- objects of any keys that are read further
@@ -99,16 +99,13 @@ fine-files d =
     ∙ sym (three-some (option_and_then dockerfile_in (get (codes "dockerfile") d)) (or_none [] listing_in (get (codes "context") d)) (at_most_one as_str (get (codes "target") d)) files_with)
 
 module _ {C : Type 0} (config : Data → Option C) where
-  fine-config : Suits (config_flaw config) config
-  fine-config d = fine-if (is_some (config d)) (config_place d)
-
   fine-image : Suits (image_flaw config) (image_in config)
   unfolding image_in
   fine-image d =
       fine-or_else (no_other image_keys d) _
       ∙ both (fine-no_other image_keys d)
-      (fine-or_else (required (codes "config") (config_flaw config) d) _
-      ∙ both (fine-required (config_flaw config) config fine-config (codes "config") (get (codes "config") d))
+      (fine-or_else (required (codes "config") (read_as config) d) _
+      ∙ both (fine-required (read_as config) config (fine-read_as config) (codes "config") (get (codes "config") d))
       (fine-or_else (optional (codes "digest") (read_as digest_in) d) _
       ∙ both (fine-optional (read_as digest_in) digest_in (fine-read_as digest_in) (codes "digest") (get (codes "digest") d))
       (fine-last (required (codes "tree") listing_flaw d) ∙ fine-required listing_flaw listing_in fine-listing (codes "tree") (get (codes "tree") d)))

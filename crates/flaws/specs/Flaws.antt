@@ -1,7 +1,6 @@
 -- Where bytes that are no bundle are wrong (own): in how many there are, in the text, in the JSON, or at a place in it. The kinds of values are
 -- those of docs/FORMATS.md. Of a key that stands twice in an object only the last value is looked at, since that is the one that counts.
-use Rattle.std.specs.Prelude.{ℕ, ◌==◌, ◌&&◌, Bool, false, not, Option, Some, None, List, [], ◌∷◌, length, nat_le, codes, is_some, unwrap_or, if◌then◌else◌}
-use Rattle.std.specs.List.{list_any}
+use Rattle.std.specs.Prelude.{ℕ, Bool, false, Option, Some, None, List, [], ◌∷◌, length, nat_le, codes, is_some, unwrap_or, if◌then◌else◌}
 use Rattle.std.specs.Option.{option_map}
 use Rattle.std.specs.Str.{is_utf8}
 use Rattle.std.specs.Str.Lossy.{utf8_valid_len}
@@ -14,7 +13,7 @@ use Rattle.entries.specs.Reading.{mode_in, content_in}
 use Rattle.entries.specs.Listing.{listing_in}
 use Rattle.bundle.specs.Digest.{digest_in}
 use Rattle.bundle.specs.Parts.{is_image_name}
-use Rattle.flaws.specs.Looks.{Way, Looks, whole, unless_null, read_as, first_of, optional, required, keys, no_other, items, rows}
+use Rattle.flaws.specs.Looks.{Way, Looks, whole, read_as, first_of, optional, required, keys, no_other, items, rows}
 use Rattle.flaws.specs.declared.flaw.Step.TheVariants.{Key}
 use Rattle.flaws.specs.declared.flaw.Flaw.{Flaw}
 use Rattle.flaws.specs.declared.flaw.Flaw.TheVariants.{TooLong, NoText, NoJson, At}
@@ -72,36 +71,11 @@ listing_flaw = first_of (items entry_flaw ∷ (read_as listing_in ∷ []))
 abbrev pub dockerfile_flaw : Looks
 dockerfile_flaw = first_of (no_other (codes "hex" ∷ codes "text" ∷ []) ∷ (content_flaw ∷ []))
 
--- a text `NAME=VALUE`, whose name isn't empty (OCI image specification, Env)
-abbrev pub is_assignment : List ℕ → Bool
-is_assignment [] = false
-is_assignment (c ∷ cs) = not (c == 61) && list_any (λ it. it == 61) cs
-
--- a variable of an environment
-abbrev pub is_variable : Data → Bool
-is_variable d = unwrap_or (option_map is_assignment (as_str d)) false
-
--- an environment: the first value of the list that is no variable
-abbrev pub environment_flaw : Looks
-environment_flaw = unless_null (items (whole is_variable))
-
--- what a configuration says of processes
-abbrev pub settings_flaw : Looks
-settings_flaw = optional (codes "Env") environment_flaw
-
--- which part of a configuration is wrong that can't be read: what is wrong in its environment; the configuration, if nothing is
-abbrev pub config_place : Data → Way
-config_place d = unwrap_or (optional (codes "config") settings_flaw d) []
-
--- a configuration, which has to be read by `config`
-abbrev pub config_flaw : {C : Type 0} → (Data → Option C) → Looks
-config_flaw config d = if is_some (config d) then None else Some (config_place d)
-
 -- an image, whose configuration has to be read by `config`
 abbrev pub image_flaw : {C : Type 0} → (Data → Option C) → Looks
 image_flaw config = first_of
     (no_other (codes "config" ∷ codes "digest" ∷ codes "tree" ∷ [])
-    ∷ (required (codes "config") (config_flaw config)
+    ∷ (required (codes "config") (read_as config)
     ∷ (optional (codes "digest") (read_as digest_in)
     ∷ (required (codes "tree") listing_flaw
     ∷ []))))

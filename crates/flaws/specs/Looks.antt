@@ -3,7 +3,7 @@ use Rattle.std.specs.Prelude.{◌+◌, ℕ, Bool, not, Option, Some, None, List,
 use Rattle.std.specs.List.{find, list_any}
 use Rattle.std.specs.Option.{option_map}
 use Rattle.serde_json.specs.Data.{Data, Items, no_items, item, Members, no_members, member}
-use Rattle.serde_json.specs.Find.{get, as_array, as_null, as_object}
+use Rattle.serde_json.specs.Find.{get, as_array, as_object}
 use Rattle.flaws.specs.declared.flaw.Step.{Step}
 use Rattle.flaws.specs.declared.flaw.Step.TheVariants.{Key, Item}
 
@@ -22,10 +22,6 @@ whole is_right d = if is_right d then None else Some []
 -- a value has to be read as something, whatever is wrong in it
 abbrev pub read_as : {A : Type 0} → (Data → Option A) → Looks
 read_as reading = whole (λ d. is_some (reading d))
-
--- `null` may stand in a value's place
-abbrev pub unless_null : Looks → Looks
-unless_null looks d = if is_some (as_null d) then None else looks d
 
 -- the same place, seen from one step further out
 abbrev pub below : Step → Option Way → Option Way

@@ -7,8 +7,7 @@ ghost use Rattle.flaws.specs.Flaws.{files_flaw, named_flaw, bundle_flaw};
 use crate::entry::{EntryList, content};
 use crate::flaw::Step;
 use crate::keys::{image_names, no_other};
-use crate::looking::{Look, optional, read_as, required, rows};
-use crate::settings::Configuration;
+use crate::looking::{Look, optional, read_as, read_keyed, required, rows};
 use borrowed::FromLentKeyed;
 use bundle::read_digest;
 use json::Value;
@@ -52,6 +51,25 @@ impl Look for DockerfileObject {
             Some(way) => Ok(Some(way)),
             None => content(alloc, value),
         }
+    }
+}
+
+/// An image's configuration, which is of the caller's kind.
+struct Configuration<C> {
+    kind: PhantomData<C>,
+}
+
+impl<C: FromLentKeyed> Look for Configuration<C> {
+    ghost use Rattle.flaws.specs.Looks.{read_as};
+
+    ghost looks = { read_as C.reading };
+
+    fn look(
+        alloc: Global,
+        keys: RandomState,
+        value: &Value<'_>,
+    ) -> Result<Option<Items<Step>>, Memory> {
+        read_keyed::<C>(alloc, keys, value)
     }
 }
 

@@ -19,7 +19,6 @@ mod kinds;
 pub mod laws;
 mod looking;
 mod placing;
-mod settings;
 mod whole;
 
 pub use flaw::{Flaw, Step};

@@ -121,6 +121,24 @@ pub(crate) fn read_as<T: FromLent>(
     }
 }
 
+/// The same of what is read with these keys.
+pub(crate) fn read_keyed<T: FromLentKeyed>(
+    alloc: Global,
+    keys: RandomState,
+    value: &Value<'_>,
+) -> Result<Option<Items<Step>>, Memory>
+    ensures { IfOk result (λ found. found ≡ read_as T.reading (data_of value.now)) }
+{
+    match T::from_lent_keyed(alloc, keys, value) {
+        Ok(read) => {
+            drop(read);
+            Ok(None)
+        }
+        Err(Fault::Because(_)) => Ok(Some(Items::new(alloc))),
+        Err(Fault::Memory) => Err(Memory),
+    }
+}
+
 /// Where the first of some values is wrong that is.
 fn among_items<L: Look>(
     alloc: Global,

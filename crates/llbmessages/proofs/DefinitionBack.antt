@@ -1,12 +1,10 @@
 -- Definitions are read as they were written.
 use Rattle.std.proofs.Common.{◌≡◌, Some, option_map, refl, sym, ap, ◌∙◌, List, ℕ}
 use Rattle.std.specs.Option.{option_and_then}
-use Rattle.wire.specs.Kinds.{entry_fields, text_value, flag_value, message_value, blocks_of, flag_at, read_as, message_at, optional_at, entry_of, text_value_at, flag_value_at, map_at}
-use Rattle.wire.proofs.ReadLemmas.{reads, last-flag, fields-back, optional-back, each-back, text-entry-back, flag-entry-back, message-entry-back, all_of}
+use Rattle.wire.specs.Kinds.{entry_fields, text_value, flag_value, message_value, blocks_of, flag_at, read_as, message_at, entry_of, text_value_at, flag_value_at, map_at}
+use Rattle.wire.proofs.ReadLemmas.{reads, last-flag, fields-back, each-back, text-entry-back, flag-entry-back, message-entry-back, all_of}
 use Rattle.llbmessages.specs.declared.definition.OpMetadata.{OpMetadata}
 use Rattle.llbmessages.specs.declared.definition.Definition.{Definition}
-use Rattle.llbmessages.specs.Places.{source_map_fields, source_map_of}
-use Rattle.llbmessages.proofs.PlacesBack.{source_map-back}
 use Rattle.llbmessages.specs.Definition.{metadata_fields, metadata_of, definition_fields, definition_of, read_definition, definition_bytes}
 
 metadata-back : (metadata : OpMetadata) → metadata_of (metadata_fields metadata) ≡ Some metadata
@@ -30,10 +28,7 @@ fields_of_definition-back definition =
     simp reads (each-back (entry_fields (message_value metadata_fields)) (read_as (entry_of (message_at (read_as metadata_of) 2))) definition.metadata
     (all_of _ definition.metadata (λ entry. message-entry-back metadata_fields (read_as metadata_of) entry
     (fields-back metadata_fields metadata_of entry.1 (metadata-back entry.1))))) in
-    let source : optional_at (read_as source_map_of) 3 (definition_fields definition) ≡ Some definition.source =
-    simp reads (optional-back source_map_fields (read_as source_map_of) definition.source
-    (λ value _. fields-back source_map_fields source_map_of value (source_map-back value))) in
-    λ i. option_and_then (λ metadata. option_map (λ source. record { ops = ops i; metadata = metadata; source = source }) (source i)) (metadata i)
+    λ i. option_map (λ metadata. record { ops = ops i; metadata = metadata }) (metadata i)
 
 pub definition-back : (definition : Definition) → read_definition (definition_bytes definition) ≡ Some definition
 definition-back definition = fields-back definition_fields definition_of definition (fields_of_definition-back definition)

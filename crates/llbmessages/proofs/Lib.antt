@@ -3,5 +3,4 @@ mod ExecBack
 mod FileBack
 mod FitLemmas
 mod OpBack
-mod PlacesBack
 mod SourceBack

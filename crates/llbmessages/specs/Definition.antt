@@ -3,8 +3,7 @@ use Rattle.std.specs.Prelude.{ℕ, Option, option_map, List, ◌++◌}
 use Rattle.std.specs.Option.{option_and_then}
 use Rattle.wire.specs.Fields.{Field}
 use Rattle.wire.specs.Messages.{message_bytes}
-use Rattle.wire.specs.Kinds.{flag_field, texts_field, map_field, optional_field, text_value, flag_value, message_value, flag_at, blocks_of, map_at, text_value_at, flag_value_at, message_at, optional_at, read_as}
-use Rattle.llbmessages.specs.Places.{source_map_fields, source_map_of}
+use Rattle.wire.specs.Kinds.{flag_field, texts_field, map_field, text_value, flag_value, message_value, flag_at, blocks_of, map_at, text_value_at, flag_value_at, message_at, read_as}
 use Rattle.llbmessages.specs.declared.definition.OpMetadata.{OpMetadata}
 use Rattle.llbmessages.specs.declared.definition.Definition.{Definition}
 
@@ -17,9 +16,7 @@ metadata_fields metadata =
 
 -- the fields of a definition
 unfoldable pub definition_fields : Definition → List Field
-definition_fields definition =
-    texts_field 1 definition.ops ++ map_field (message_value metadata_fields) 2 definition.metadata
-    ++ optional_field source_map_fields 3 definition.source
+definition_fields definition = texts_field 1 definition.ops ++ map_field (message_value metadata_fields) 2 definition.metadata
 
 -- ---- read
 
@@ -35,9 +32,7 @@ metadata_of fields =
 -- what the fields of a definition are read as
 unfoldable pub definition_of : List Field → Option Definition
 definition_of fields =
-    option_and_then
-    (λ metadata. option_map (λ source. record { ops = blocks_of 1 fields; metadata = metadata; source = source }) (optional_at (read_as source_map_of) 3 fields))
-    (map_at (message_at (read_as metadata_of) 2) 2 fields)
+    option_map (λ metadata. record { ops = blocks_of 1 fields; metadata = metadata }) (map_at (message_at (read_as metadata_of) 2) 2 fields)
 
 -- the definition that bytes are read as
 abbrev pub read_definition : List ℕ → Option Definition

@@ -1,4 +1,4 @@
--- A command with its mounts (BuildKit's LLB, `ExecOp`, `Meta`, `ProxyEnv`, `HostIP`, `Ulimit`, `Mount`, `TmpfsOpt`, `CacheOpt`).
+-- A command with its mounts (BuildKit's LLB, `ExecOp`, `Meta`, `Mount`, `CacheOpt`).
 use Rattle.std.specs.Prelude.{ℕ, ◌==◌, if◌then◌else◌, Option, Some, None, option_map, List, [], ◌∷◌, ◌++◌}
 use Rattle.std.specs.Option.{option_and_then}
 use Rattle.std.specs.Int.{w64}
@@ -7,17 +7,13 @@ use Rattle.std.specs.List.{AllByRecursion}
 use Rattle.plain.specs.declared.sharing.Sharing.{Sharing}
 use Rattle.plain.specs.declared.sharing.Sharing.TheVariants.{Shared, Private, Locked}
 use Rattle.wire.specs.Fields.{Field, number}
-use Rattle.wire.specs.Kinds.{number_field, int_field, flag_field, bytes_field, texts_field, message_field, optional_field, messages_field, number_at, int_at, flag_at, bytes_at, blocks_of, joined, message_at, optional_at, messages_at, read_as}
+use Rattle.wire.specs.Kinds.{number_field, int_field, flag_field, bytes_field, texts_field, message_field, messages_field, number_at, int_at, flag_at, bytes_at, blocks_of, joined, message_at, messages_at, read_as}
 use Rattle.llbmessages.specs.declared.exec.Network.{Network}
 use Rattle.llbmessages.specs.declared.exec.Network.TheVariants.{Sandbox, Host, None as NoNetwork}
-use Rattle.llbmessages.specs.declared.exec.ProxyEnv.{ProxyEnv}
-use Rattle.llbmessages.specs.declared.exec.HostIp.{HostIp}
-use Rattle.llbmessages.specs.declared.exec.Ulimit.{Ulimit}
 use Rattle.llbmessages.specs.declared.exec.Meta.{Meta}
-use Rattle.llbmessages.specs.declared.exec.TmpfsOpt.{TmpfsOpt}
 use Rattle.llbmessages.specs.declared.exec.CacheOpt.{CacheOpt}
 use Rattle.llbmessages.specs.declared.exec.MountKind.{MountKind}
-use Rattle.llbmessages.specs.declared.exec.MountKind.TheVariants.{Bind, Cache, Tmpfs}
+use Rattle.llbmessages.specs.declared.exec.MountKind.TheVariants.{Bind, Cache}
 use Rattle.llbmessages.specs.declared.exec.Mount.{Mount}
 use Rattle.llbmessages.specs.declared.exec.ExecOp.{ExecOp}
 
@@ -29,26 +25,9 @@ network_number Sandbox = 0
 network_number Host = 1
 network_number NoNetwork = 2
 
--- the fields of proxies
-unfoldable pub proxy_fields : ProxyEnv → List Field
-proxy_fields proxy =
-    bytes_field 1 proxy.http ++ bytes_field 2 proxy.https ++ bytes_field 3 proxy.ftp ++ bytes_field 4 proxy.no ++ bytes_field 5 proxy.all
-
--- the fields of a name with its address
-unfoldable pub host_fields : HostIp → List Field
-host_fields host = bytes_field 1 host.host ++ bytes_field 2 host.ip
-
--- the fields of a limit
-unfoldable pub limit_fields : Ulimit → List Field
-limit_fields limit = bytes_field 1 limit.name ++ int_field 2 limit.soft ++ int_field 3 limit.hard
-
--- the fields of a command, after its words, environment, folder and user: `proxy_env`, `extraHosts`, `hostname`, `ulimit`, `cgroupParent` and
--- `removeMountStubsRecursive` (BuildKit, solver/pb/ops.proto)
+-- the fields of a command
 unfoldable pub meta_fields : Meta → List Field
-meta_fields meta =
-    texts_field 1 meta.args ++ texts_field 2 meta.env ++ bytes_field 3 meta.cwd ++ bytes_field 4 meta.user
-    ++ optional_field proxy_fields 5 meta.proxy ++ messages_field host_fields 6 meta.hosts ++ bytes_field 7 meta.hostname
-    ++ messages_field limit_fields 9 meta.limits ++ bytes_field 10 meta.cgroup_parent ++ flag_field 11 meta.clears_stubs
+meta_fields meta = texts_field 1 meta.args ++ texts_field 2 meta.env ++ bytes_field 3 meta.cwd ++ bytes_field 4 meta.user
 
 -- the number of a way of sharing
 abbrev pub sharing_number : Sharing → ℕ
@@ -56,19 +35,14 @@ sharing_number Shared = 0
 sharing_number Private = 1
 sharing_number Locked = 2
 
--- the fields of a mount of files in memory
-unfoldable pub tmpfs_fields : TmpfsOpt → List Field
-tmpfs_fields tmpfs = int_field 1 tmpfs.size
-
 -- the fields of a mount's cache
 unfoldable pub cache_fields : CacheOpt → List Field
 cache_fields cache = bytes_field 1 cache.id ++ number_field 2 (sharing_number cache.sharing)
 
--- what a mount is: a bind is of type 0, which isn't written; a cache is of type 3, and it is said which; files in memory are of type 4
+-- what a mount is: a bind is of type 0, which isn't written; a cache is of type 3, and it is said which
 unfoldable pub mount_kind_fields : MountKind → List Field
 mount_kind_fields Bind = []
 mount_kind_fields (Cache cache) = number 6 3 ∷ [] ++ message_field 20 (cache_fields cache)
-mount_kind_fields (Tmpfs tmpfs) = number 6 4 ∷ [] ++ message_field 19 (tmpfs_fields tmpfs)
 
 -- the fields of a mount
 unfoldable pub mount_fields : Mount → List Field
@@ -86,52 +60,26 @@ exec_fields exec = message_field 1 (meta_fields exec.meta) ++ messages_field mou
 abbrev pub network_of : ℕ → Option Network
 network_of n = if n == 0 then Some Sandbox else if n == 1 then Some Host else if n == 2 then Some NoNetwork else None
 
--- what the fields of proxies are read as
-unfoldable pub proxy_of : List Field → Option ProxyEnv
-proxy_of fields =
-    Some (record { http = bytes_at 1 fields; https = bytes_at 2 fields; ftp = bytes_at 3 fields; no = bytes_at 4 fields; all = bytes_at 5 fields })
-
--- what the fields of a name with its address are read as
-unfoldable pub host_of : List Field → Option HostIp
-host_of fields = Some (record { host = bytes_at 1 fields; ip = bytes_at 2 fields })
-
--- what the fields of a limit are read as
-unfoldable pub limit_of : List Field → Option Ulimit
-limit_of fields = Some (record { name = bytes_at 1 fields; soft = int_at 2 fields; hard = int_at 3 fields })
-
 -- what the fields of a command are read as
 unfoldable pub meta_of : List Field → Option Meta
-meta_of fields =
-    option_and_then
-    (λ proxy. option_and_then
-    (λ hosts. option_map
-    (λ limits. record { args = blocks_of 1 fields; env = blocks_of 2 fields; cwd = bytes_at 3 fields; user = bytes_at 4 fields; proxy = proxy; hosts = hosts; hostname = bytes_at 7 fields; limits = limits; cgroup_parent = bytes_at 10 fields; clears_stubs = flag_at 11 fields })
-    (messages_at (read_as limit_of) 9 fields))
-    (messages_at (read_as host_of) 6 fields))
-    (optional_at (read_as proxy_of) 5 fields)
+meta_of fields = Some (record { args = blocks_of 1 fields; env = blocks_of 2 fields; cwd = bytes_at 3 fields; user = bytes_at 4 fields })
 
 -- the way of sharing of a number
 abbrev pub sharing_of : ℕ → Option Sharing
 sharing_of n = if n == 0 then Some Shared else if n == 1 then Some Private else if n == 2 then Some Locked else None
 
--- what the fields of a mount of files in memory are read as
-unfoldable pub tmpfs_of : List Field → Option TmpfsOpt
-tmpfs_of fields = Some (record { size = int_at 1 fields })
-
 -- what the fields of a mount's cache are read as
 unfoldable pub cache_of : List Field → Option CacheOpt
 cache_of fields = option_map (λ sharing. record { id = bytes_at 1 fields; sharing = sharing }) (sharing_of (number_at 2 fields))
 
--- what a mount is, by its type and by the files in memory or the cache that is set
-abbrev pub mount_kind_read : ℕ → Option (List ℕ) → Option (List ℕ) → Option MountKind
-mount_kind_read type tmpfs cache =
-    if type == 0 then Some Bind
-    else if type == 3 then option_map Cache (option_and_then (read_as cache_of) cache)
-    else if type == 4 then option_map Tmpfs (option_and_then (read_as tmpfs_of) tmpfs) else None
+-- what a mount is, by its type and by the cache that is set
+abbrev pub mount_kind_read : ℕ → Option (List ℕ) → Option MountKind
+mount_kind_read type cache =
+    if type == 0 then Some Bind else if type == 3 then option_map Cache (option_and_then (read_as cache_of) cache) else None
 
 -- what the fields of a mount say that it is
 abbrev pub mount_kind_of : List Field → Option MountKind
-mount_kind_of fields = mount_kind_read (number_at 6 fields) (joined (blocks_of 19 fields)) (joined (blocks_of 20 fields))
+mount_kind_of fields = mount_kind_read (number_at 6 fields) (joined (blocks_of 20 fields))
 
 -- what the fields of a mount are read as
 unfoldable pub mount_of : List Field → Option Mount
@@ -151,20 +99,10 @@ exec_of fields =
 
 -- ---- numbers with a sign have 64 bits
 
--- those of a limit
-abbrev pub FitsLimit : Ulimit → Type 0
-FitsLimit limit = FitsSigned w64 limit.soft × FitsSigned w64 limit.hard
-
--- those of what a mount is
-abbrev pub FitsMountKind : MountKind → Type 0
-FitsMountKind Bind = Unit {0}
-FitsMountKind (Cache cache) = Unit {0}
-FitsMountKind (Tmpfs tmpfs) = FitsSigned w64 tmpfs.size
-
 -- those of a mount
 abbrev pub FitsMount : Mount → Type 0
-FitsMount mount = FitsSigned w64 mount.input × FitsSigned w64 mount.output × FitsMountKind mount.kind
+FitsMount mount = FitsSigned w64 mount.input × FitsSigned w64 mount.output
 
--- those of a command and of its mounts
+-- those of a command's mounts
 abbrev pub FitsExec : ExecOp → Type 0
-FitsExec exec = AllByRecursion FitsLimit exec.meta.limits × AllByRecursion FitsMount exec.mounts
+FitsExec exec = AllByRecursion FitsMount exec.mounts

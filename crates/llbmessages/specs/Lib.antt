@@ -2,5 +2,4 @@ pub mod Definition
 pub mod Exec
 pub mod File
 pub mod Op
-pub mod Places
 pub mod Source

@@ -2,7 +2,6 @@ ghost use Rattle.std.specs.Prelude.{◌≡◌, [], ◌∷◌, ◌++◌, IfOk};
 ghost use Rattle.wire.specs.Kinds.{message_value};
 ghost use Rattle.llbmessages.specs.Definition.{metadata_fields, definition_fields};
 
-use crate::SourceMap;
 use plain::{Bytes, Items, Memory, Text};
 use std::alloc::Global;
 use wire::{Encode, EntryValue, Map, Message};
@@ -46,8 +45,6 @@ pub struct Definition {
     pub ops: Items<Bytes>,
     /// What is said of the operations, by their digests.
     pub metadata: Map<OpMetadata>,
-    /// Where its operations stand in the files that it comes from.
-    pub source: Option<SourceMap>,
 }
 
 impl Encode for Definition {
@@ -57,7 +54,6 @@ impl Encode for Definition {
     fn encode(&self, alloc: Global) -> Result<Message, Memory> {
         Message::new(alloc)
             .with_blocks(1, self.ops.as_slice())?
-            .with_map(alloc, 2, &self.metadata)?
-            .with_optional(alloc, 3, &self.source)
+            .with_map(alloc, 2, &self.metadata)
     }
 }

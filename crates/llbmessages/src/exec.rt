@@ -1,7 +1,7 @@
 ghost use Rattle.std.specs.Prelude.{◌≡◌, ◌++◌, [], IfOk};
-ghost use Rattle.llbmessages.specs.Exec.{network_number, proxy_fields, host_fields, limit_fields, meta_fields, sharing_number, tmpfs_fields, cache_fields, mount_kind_fields, mount_fields, exec_fields};
+ghost use Rattle.llbmessages.specs.Exec.{network_number, meta_fields, sharing_number, cache_fields, mount_kind_fields, mount_fields, exec_fields};
 
-use plain::{Exact, Items, Memory, Sharing, Text, with_copy};
+use plain::{Items, Memory, Sharing, Text};
 use std::alloc::Global;
 use wire::{Encode, Message};
 
@@ -29,127 +29,6 @@ impl Network {
     }
 }
 
-/// Proxies that a command is given as variables, each empty where there is none. They are no part of its result's cache key.
-#[derive(Drop)]
-pub struct ProxyEnv {
-    pub http: Text,
-    pub https: Text,
-    pub ftp: Text,
-    /// The names that are asked without a proxy.
-    pub no: Text,
-    pub all: Text,
-}
-
-impl Encode for ProxyEnv {
-    ghost fields = { proxy_fields };
-
-    #[tactic(auto, unfolding(crate::specs::Exec::proxy_fields))]
-    fn encode(&self, alloc: Global) -> Result<Message, Memory> {
-        Message::new(alloc)
-            .with_text(1, &self.http)?
-            .with_text(2, &self.https)?
-            .with_text(3, &self.ftp)?
-            .with_text(4, &self.no)?
-            .with_text(5, &self.all)
-    }
-}
-
-impl Exact for ProxyEnv {
-    fn same(&self, other: &ProxyEnv) -> bool {
-        self.http.same(&other.http)
-            && self.https.same(&other.https)
-            && self.ftp.same(&other.ftp)
-            && self.no.same(&other.no)
-            && self.all.same(&other.all)
-    }
-
-    fn copy(&self, alloc: Global) -> Result<ProxyEnv, Memory> {
-        let http = self.http.copy(alloc)?;
-        let (http, https) = with_copy(alloc, http, &self.https)?;
-        let ((http, https), ftp) = with_copy(alloc, (http, https), &self.ftp)?;
-        let (((http, https), ftp), no) = with_copy(alloc, ((http, https), ftp), &self.no)?;
-        let ((((http, https), ftp), no), all) = with_copy(
-            alloc,
-            (((http, https), ftp), no),
-            &self.all,
-        )?;
-        Ok(ProxyEnv {
-            http,
-            https,
-            ftp,
-            no,
-            all,
-        })
-    }
-}
-
-/// A name that a command knows, with its address.
-#[derive(Drop)]
-pub struct HostIp {
-    pub host: Text,
-    pub ip: Text,
-}
-
-impl Encode for HostIp {
-    ghost fields = { host_fields };
-
-    #[tactic(auto, unfolding(crate::specs::Exec::host_fields))]
-    fn encode(&self, alloc: Global) -> Result<Message, Memory> {
-        Message::new(alloc)
-            .with_text(1, &self.host)?
-            .with_text(2, &self.ip)
-    }
-}
-
-impl Exact for HostIp {
-    fn same(&self, other: &HostIp) -> bool {
-        self.host.same(&other.host) && self.ip.same(&other.ip)
-    }
-
-    fn copy(&self, alloc: Global) -> Result<HostIp, Memory> {
-        let host = self.host.copy(alloc)?;
-        let (host, ip) = with_copy(alloc, host, &self.ip)?;
-        Ok(HostIp { host, ip })
-    }
-}
-
-/// How much of something a command may use, as of open files (`nofile`).
-#[derive(Drop)]
-pub struct Ulimit {
-    pub name: Text,
-    /// What is allowed; -1 is any amount.
-    pub soft: i64,
-    /// What a command may allow itself; -1 is any amount.
-    pub hard: i64,
-}
-
-impl Encode for Ulimit {
-    ghost fields = { limit_fields };
-
-    #[tactic(auto, unfolding(crate::specs::Exec::limit_fields))]
-    fn encode(&self, alloc: Global) -> Result<Message, Memory> {
-        Message::new(alloc)
-            .with_text(1, &self.name)?
-            .with_int(2, self.soft)?
-            .with_int(3, self.hard)
-    }
-}
-
-impl Exact for Ulimit {
-    fn same(&self, other: &Ulimit) -> bool {
-        self.name.same(&other.name) && self.soft == other.soft && self.hard == other.hard
-    }
-
-    fn copy(&self, alloc: Global) -> Result<Ulimit, Memory> {
-        let name = self.name.copy(alloc)?;
-        Ok(Ulimit {
-            name,
-            soft: self.soft,
-            hard: self.hard,
-        })
-    }
-}
-
 /// A command, and what it runs with.
 #[derive(Drop)]
 pub struct Meta {
@@ -161,16 +40,6 @@ pub struct Meta {
     pub cwd: Text,
     /// The user that it runs as; empty for the image's own.
     pub user: Text,
-    pub proxy: Option<ProxyEnv>,
-    /// The names that it knows beside those of the network.
-    pub hosts: Items<HostIp>,
-    /// The name of its machine; empty for the engine's own choice.
-    pub hostname: Text,
-    pub limits: Items<Ulimit>,
-    /// The control group that it runs in; empty for the engine's own choice.
-    pub cgroup_parent: Text,
-    /// Whether an engine takes away what it made for the targets of mounts, with the folders above them.
-    pub clears_stubs: bool,
 }
 
 impl Encode for Meta {
@@ -182,13 +51,7 @@ impl Encode for Meta {
             .with_texts(1, self.args.as_slice())?
             .with_texts(2, self.env.as_slice())?
             .with_text(3, &self.cwd)?
-            .with_text(4, &self.user)?
-            .with_optional(alloc, 5, &self.proxy)?
-            .with_messages(alloc, 6, self.hosts.as_slice())?
-            .with_text(7, &self.hostname)?
-            .with_messages(alloc, 9, self.limits.as_slice())?
-            .with_text(10, &self.cgroup_parent)?
-            .with_flag(11, self.clears_stubs)
+            .with_text(4, &self.user)
     }
 }
 
@@ -200,22 +63,6 @@ fn sharing_number(sharing: Sharing) -> u64
         Sharing::Shared => 0,
         Sharing::Private => 1,
         Sharing::Locked => 2,
-    }
-}
-
-/// How large a mount of files in memory may grow.
-#[derive(Drop)]
-pub struct TmpfsOpt {
-    /// A number of bytes; 0 for the engine's own choice.
-    pub size: i64,
-}
-
-impl Encode for TmpfsOpt {
-    ghost fields = { tmpfs_fields };
-
-    #[tactic(auto, unfolding(crate::specs::Exec::tmpfs_fields))]
-    fn encode(&self, alloc: Global) -> Result<Message, Memory> {
-        Message::new(alloc).with_int(1, self.size)
     }
 }
 
@@ -243,8 +90,6 @@ pub enum MountKind {
     Bind,
     /// A cache.
     Cache(CacheOpt),
-    /// Files in memory, of which none is there at first and none is kept.
-    Tmpfs(TmpfsOpt),
 }
 
 /// It ends by a call, so that no proof above goes by what a mount is at each place where one is let go.
@@ -253,7 +98,6 @@ impl Drop for MountKind {
         match self {
             MountKind::Bind => {}
             MountKind::Cache(cache) => drop(cache),
-            MountKind::Tmpfs(tmpfs) => drop(tmpfs),
         }
     }
 }
@@ -268,9 +112,6 @@ fn with_mount_kind(alloc: Global, message: Message, kind: &MountKind) -> Result<
         MountKind::Cache(cache) => message
             .with_set_number(6, 3)?
             .with_encoded(alloc, 20, cache),
-        MountKind::Tmpfs(tmpfs) => message
-            .with_set_number(6, 4)?
-            .with_encoded(alloc, 19, tmpfs),
     }
 }
 

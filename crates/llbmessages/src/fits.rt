@@ -2,13 +2,11 @@
 // written is known to be read as it was.
 
 ghost use Rattle.std.specs.List.{AllByRecursion};
-ghost use Rattle.llbmessages.specs.Exec.{FitsLimit, FitsMountKind, FitsMount, FitsExec};
+ghost use Rattle.llbmessages.specs.Exec.{FitsMount};
 ghost use Rattle.llbmessages.specs.File.{FitsAction, FitsActionKind};
 ghost use Rattle.llbmessages.specs.Op.{FitsInput, FitsMergeInput, FitsKind, FitsOp};
 
-use crate::{
-    ExecOp, FileAction, FileActionKind, Input, MergeInput, Mount, MountKind, Op, OpKind, Ulimit,
-};
+use crate::{FileAction, FileActionKind, Input, MergeInput, Mount, Op, OpKind};
 
 /// Values whose numbers are within their types.
 trait Fit {
@@ -45,39 +43,12 @@ impl Fit for MergeInput {
     }
 }
 
-impl Fit for Ulimit {
-    ghost fits = { FitsLimit };
-
-    fn look(&self) {
-        let _numbers = (self.soft, self.hard);
-    }
-}
-
-fn look_at_mount_kind(kind: &MountKind)
-    ensures { FitsMountKind kind.now }
-{
-    match kind {
-        MountKind::Bind | MountKind::Cache(_) => {}
-        MountKind::Tmpfs(tmpfs) => {
-            let _size = tmpfs.size;
-        }
-    }
-}
-
 impl Fit for Mount {
     ghost fits = { FitsMount };
 
     fn look(&self) {
-        look_at_mount_kind(&self.kind);
         let _numbers = (self.input, self.output);
     }
-}
-
-fn look_at_exec(exec: &ExecOp)
-    ensures { FitsExec exec.now }
-{
-    look_at_all(exec.meta.limits.as_slice());
-    look_at_all(exec.mounts.as_slice());
 }
 
 impl Fit for FileAction {
@@ -110,7 +81,7 @@ fn look_at_kind(kind: &OpKind)
 {
     match kind {
         OpKind::End | OpKind::Source(_) => {}
-        OpKind::Exec(exec) => look_at_exec(exec),
+        OpKind::Exec(exec) => look_at_all(exec.mounts.as_slice()),
         OpKind::File(file) => look_at_all(file.actions.as_slice()),
         OpKind::Merge(merge) => look_at_all(merge.inputs.as_slice()),
     }

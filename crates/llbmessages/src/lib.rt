@@ -23,16 +23,12 @@ mod file;
 mod fits;
 pub mod laws;
 mod op;
-mod places;
 mod source;
 
 pub use definition::{Definition, OpMetadata};
-pub use exec::{
-    CacheOpt, ExecOp, HostIp, Meta, Mount, MountKind, Network, ProxyEnv, TmpfsOpt, Ulimit,
-};
+pub use exec::{CacheOpt, ExecOp, Meta, Mount, MountKind, Network};
 pub use file::{
     ChownOpt, CopyAction, FileAction, FileActionKind, FileOp, MakeDirAction, MakeFileAction,
 };
 pub use op::{Constraints, Input, MergeInput, MergeOp, Op, OpKind, Platform};
-pub use places::{Location, Locations, Range, SourceInfo, SourceMap};
 pub use source::SourceOp;

@@ -52,7 +52,7 @@ are_few images lines = nat_le images most_compared_images && nat_le lines most_c
 
 -- what helps against a name that leads to none of these stages and images
 abbrev pub packing_help : List (List ℕ) → List ℕ → List ℕ
-packing_help names name = listed_help names (codes "pack the image by --image " ++ (name ++ codes "=FILE; check, graph and config can do without it by --any-image"))
+packing_help names name = listed_help names (codes "pack the image by --image " ++ (name ++ codes "=FILE"))
 
 -- what is said of a name that leads to none of these stages and images, each of which stands on its line whole: the nearest of them may have been meant
 abbrev pub missing_among : List ℕ → List (List ℕ) → Message

@@ -17,7 +17,7 @@
 // let lines = ["FROM scratch AS build", "FROM scratch", "COPY --from=biuld a b"];
 // message_by(alloc, None, &[], None, &lines, &lines[2..], &Reason::Coded(Code::R12), 3, Some("--from=biuld"))?
 // // wrong: there is no image biuld, and no stage of this name above; did you mean build?
-// // helps: write build, or pack the image by --image biuld=FILE; check, graph and config can do without it by --any-image
+// // helps: write build, or pack the image by --image biuld=FILE
 // ```
 #![tactic(auto)]
 

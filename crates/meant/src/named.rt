@@ -112,9 +112,7 @@ fn are_few(images: usize, lines: usize) -> bool
 fn packing_help(alloc: Global, names: &[&str], name: &str) -> Result<String, Memory>
     ensures { IfOk result (λ text. string_bytes text ≡ packing_help (map (λ it. it.now) names.now) name.now) }
 {
-    let other = format!(in alloc;
-        "pack the image by --image {name}=FILE; check, graph and config can do without it by --any-image"
-    )?;
+    let other = format!(in alloc; "pack the image by --image {name}=FILE")?;
     listed_help(alloc, names, other.as_str())
 }
 

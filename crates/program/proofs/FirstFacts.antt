@@ -1,5 +1,5 @@
 -- The first fault of a bundle is the refusal that a build answers.
-use Rattle.std.proofs.Common.{◌≡◌, ◌≢◌, ◌∙◌, inl, inr, ℕ, Bool, true, false, List, [], ◌∷◌, map, Option, Result, Ok, Err, refl, sym, ap, subst}
+use Rattle.std.proofs.Common.{◌≡◌, ◌≢◌, ◌∙◌, inl, inr, ℕ, Bool, List, [], ◌∷◌, map, Option, Result, Ok, Err, refl, sym, ap, subst}
 use Rattle.std.specs.FinMap.{get}
 use Rattle.plain.specs.declared.refusal.Refusal.{Refusal}
 use Rattle.expand.specs.Reasons.{rejection_of}
@@ -21,8 +21,8 @@ use Rattle.evaluation.specs.Faults.{evaluation_refusals}
 use Rattle.evaluation.specs.declared.evaluated.Evaluated.{Evaluated}
 use Rattle.evaluation.specs.declared.walk.Walk.{Walk}
 use Rattle.bundle.specs.declared.whole.Bundle.{Bundle}
-use Rattle.checks.specs.Checks.{AreStageFaults, AreFileFaults, AreFaultsBy, AreFaultsOf}
-use Rattle.build.specs.Meaning.{TableAsks, FileAsks, Asks, AsksBy}
+use Rattle.checks.specs.Checks.{AreStageFaults, AreFileFaults, AreFaultsOf}
+use Rattle.build.specs.Meaning.{TableAsks, FileAsks, Asks}
 
 -- the laws of the crates below, as premises
 pub record TextLaws : Type 0 where
@@ -85,16 +85,11 @@ file_refused texts names tables bundle refusal (inr read) =
     let found = stages_refused names tables bundle read.0 refusal (resolved (names_in bundle.images) (get bundle.args) bundle.target read.0) refl read.2 in
     (found.0, inr (read.0, read.1, found.1))
 
-pub refused : TextLaws → NamesRefused → TableLaws → (any : Bool) (bytes : List ℕ) (refusal : Rejection) → AsksBy any bytes (Err refusal)
-    → (more : List Rejection) × AreFaultsBy any bytes (refusal ∷ more)
-refused texts names tables any bytes refusal (inl told) = ([], inl (told.0, told.1, ap (λ r. r ∷ []) (same_refusal (Err refusal) refusal (rejection_of told.0) refl told.2)))
-refused texts names tables false bytes refusal (inr read) =
+pub refused : TextLaws → NamesRefused → TableLaws → (bytes : List ℕ) (refusal : Rejection) → Asks bytes (Err refusal) → (more : List Rejection) × AreFaultsOf bytes (refusal ∷ more)
+refused texts names tables bytes refusal (inl told) = ([], inl (told.0, told.1, ap (λ r. r ∷ []) (same_refusal (Err refusal) refusal (rejection_of told.0) refl told.2)))
+refused texts names tables bytes refusal (inr read) =
     let found = file_refused texts names tables read.0 refusal read.2 in
     (found.0, inr (read.0, read.1, found.1))
-refused texts names tables true bytes refusal (inr read) =
-    let given = read.2 in
-    let found = file_refused texts names tables given.0 refusal given.2 in
-    (found.0, inr (read.0, read.1, (given.0, given.1, found.1)))
 
 -- what is accepted has none
 
@@ -111,19 +106,18 @@ file_accepted tables bundle made (inl told) = absurd (made_or_refused (Ok made) 
 file_accepted tables bundle made (inr read) =
     inr (read.0, read.1, stages_accepted tables bundle read.0 made (resolved (names_in bundle.images) (get bundle.args) bundle.target read.0) refl read.2)
 
-pub accepted : TableLaws → (any : Bool) (bytes : List ℕ) (made : Evaluated) → AsksBy any bytes (Ok made) → AreFaultsBy any bytes []
-accepted tables any bytes made (inl told) = absurd (made_or_refused (Ok made) made (rejection_of told.0) refl told.2)
-accepted tables false bytes made (inr read) = inr (read.0, read.1, file_accepted tables read.0 made read.2)
-accepted tables true bytes made (inr read) = let given = read.2 in inr (read.0, read.1, (given.0, given.1, file_accepted tables given.0 made given.2))
+pub accepted : TableLaws → (bytes : List ℕ) (made : Evaluated) → Asks bytes (Ok made) → AreFaultsOf bytes []
+accepted tables bytes made (inl told) = absurd (made_or_refused (Ok made) made (rejection_of told.0) refl told.2)
+accepted tables bytes made (inr read) = inr (read.0, read.1, file_accepted tables read.0 made read.2)
 
 -- each bundle asks for something and has one list of faults, so the converses hold
 
 first_asked : TextLaws → NamesRefused → TableLaws → BundleLaws → (bytes : List ℕ) (refusal : Rejection) (more : List Rejection) (asked : Result Evaluated Rejection)
     → AreFaultsOf bytes (refusal ∷ more) → Asks bytes asked → Asks bytes (Err refusal)
 first_asked texts names tables bundles bytes refusal more (Ok made) are asks =
-    absurd (some_more refusal more (bundles.unique bytes (refusal ∷ more) [] are (accepted tables false bytes made asks)))
+    absurd (some_more refusal more (bundles.unique bytes (refusal ∷ more) [] are (accepted tables bytes made asks)))
 first_asked texts names tables bundles bytes refusal more (Err other) are asks =
-    let found = refused texts names tables false bytes other asks in
+    let found = refused texts names tables bytes other asks in
     let same = bundles.unique bytes (refusal ∷ more) (other ∷ found.0) are found.1 in
     subst (λ (r : Rejection). Asks bytes (Err r)) (sym (same_first refusal other more found.0 same)) asks
 
@@ -136,7 +130,7 @@ made_asked : TextLaws → NamesRefused → TableLaws → BundleLaws → (bytes :
     → (made : Evaluated) × Asks bytes (Ok made)
 made_asked texts names tables bundles bytes (Ok made) are asks = (made, asks)
 made_asked texts names tables bundles bytes (Err refusal) are asks =
-    let found = refused texts names tables false bytes refusal asks in
+    let found = refused texts names tables bytes refusal asks in
     absurd (some_more refusal found.0 (bundles.unique bytes (refusal ∷ found.0) [] found.1 are))
 
 pub free : TextLaws → NamesRefused → TableLaws → BundleLaws → (bytes : List ℕ) → AreFaultsOf bytes [] → (made : Evaluated) × Asks bytes (Ok made)

@@ -1,10 +1,6 @@
-mod AddressedFacts
 mod ConfigFacts
-mod DescendFacts
 mod DotFacts
-mod EngineFacts
 mod FirstFacts
-mod ImageFacts
 mod InputFacts
 mod LlbFacts
 mod TaskFacts

@@ -1,5 +1,5 @@
 -- What BuildKit is told of a bundle.
-use Rattle.std.proofs.Common.{◌≡◌, ℕ, List, [], Result, Ok, Err, refl, sym, ap, ◌∙◌, subst}
+use Rattle.std.proofs.Common.{◌≡◌, ℕ, List, Result, Ok, Err, refl, sym, ap, ◌∙◌, subst}
 use Rattle.std.specs.Prelude.{IfOk}
 use Rattle.expand.specs.declared.reason.Rejection.{Rejection}
 use Rattle.plain.specs.declared.fault.Fault.{Fault}
@@ -24,7 +24,7 @@ use Rattle.program.specs.declared.fault.TellFault.{TellFault}
 use Rattle.program.specs.declared.fault.TellFault.TheVariants.{Memory, Device, Clash, Unspeakable}
 use Rattle.build.specs.Meaning.{Asks}
 use Rattle.build.specs.Telling.{IsAsked}
-use Rattle.program.specs.declared.choosing.Beside.{Beside}
+use Rattle.program.specs.declared.exporting.Beside.{Beside}
 use Rattle.program.specs.declared.told.Told.{Told}
 use Rattle.program.specs.Llb.{fault_of, HasObstacle, IsBeside, IsDrawnPlan, TellsLlb}
 use Rattle.program.specs.PrivateLlb.{IsFileTold, IsLlbTold, IsPlanTold}
@@ -82,8 +82,7 @@ obstacle_told options made beside plan (way.Clash vertex) fault of is told =
 -- what is told of a file's stages is told of the bundle that asks for them
 pub file_told : (options : LlbOptions) (bytes : List ℕ) (made : Evaluated) (beside : Beside) (result : Result Told TellFault) → Asks bytes (Ok made)
     → IsBeside bytes beside → IsFileTold options made beside result → IsLlbTold options bytes result
-file_told options bytes made beside (Ok told) asked has is =
-    (subst (λ s. TellsLlb options bytes s told.text) (sym is.0) (made, asked, (beside, has, is.1.0)), is.1.1)
+file_told options bytes made beside (Ok told) asked has is = subst (λ s. TellsLlb options bytes s told.text) (sym is.0) (made, asked, (beside, has, is.1))
 file_told options bytes made beside (Err Memory) asked has is = tt
 file_told options bytes made beside (Err Device) asked has is = absurd is
 file_told options bytes made beside (Err Clash) asked has is = (made, asked, (beside, has, is))
@@ -91,6 +90,6 @@ file_told options bytes made beside (Err Unspeakable) asked has is = (made, aske
 
 -- the refusal of a bundle
 pub refusal_told : (options : LlbOptions) (bytes : List ℕ) (fault : Fault Rejection) (refusal : Rejection) (told : Told) → fault ≡ Because refusal
-    → IsAsked bytes (Err fault) → told.status ≡ Refused → told.text ≡ line_of (refused_text refusal) → told.note ≡ [] → IsLlbTold options bytes (Ok told)
-refusal_told options bytes fault refusal told because asked status text note =
-    (subst (λ s. TellsLlb options bytes s told.text) (sym status) (refusal, subst (λ f. IsAsked bytes (Err f)) because asked, text), note)
+    → IsAsked bytes (Err fault) → told.status ≡ Refused → told.text ≡ line_of (refused_text refusal) → IsLlbTold options bytes (Ok told)
+refusal_told options bytes fault refusal told because asked status text =
+    subst (λ s. TellsLlb options bytes s told.text) (sym status) (refusal, subst (λ f. IsAsked bytes (Err f)) because asked, text)

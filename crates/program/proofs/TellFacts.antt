@@ -10,9 +10,7 @@ use Rattle.plain.specs.declared.fault.Fault.TheVariants as edge
 use Rattle.counted.specs.declared.fault.Device.{Device}
 use Rattle.counted.specs.Edges.{AppendsBeginning, LosesBeginning, ReadsFirst, CountsFault, IsDevice}
 use Rattle.imageconfig.specs.Reading.{config_in}
-use Rattle.bundle.specs.Parts.{parts_of, parts_within}
-use Rattle.engineconfig.specs.Inherited.{inherited_in}
-use Rattle.serde_json.specs.Data.{Data}
+use Rattle.bundle.specs.Parts.{parts_within}
 use Rattle.flaws.specs.Flaws.{flaw_in}
 use Rattle.flaws.specs.declared.flaw.Flaw.TheVariants.{TooLong}
 use Rattle.flaws.proofs.WholeFacts.{flaw-long}
@@ -21,9 +19,8 @@ use Rattle.answering.specs.declared.status.Status.{Status}
 use Rattle.program.specs.declared.fault.TellFault.{TellFault}
 use Rattle.program.specs.declared.fault.TellFault.TheVariants as end
 use Rattle.program.specs.Faults.{of_edge}
-use Rattle.build.specs.Ends.{Devices, IsAllLeft}
-use Rattle.program.specs.declared.told.Ending.{Ending}
-use Rattle.program.specs.Telling.{HasStopped, HasTold, Stops, Telling, TellingEnds}
+use Rattle.build.specs.Ends.{Answering, Devices, IsAllLeft}
+use Rattle.program.specs.Telling.{HasStopped, HasTold, Stops, TellingEnds}
 use Rattle.program.specs.PrivateTelling.{held, HoldsSame, IsToldBy, Moves, MovesStops}
 
 -- what was read holds what the whole bundle holds
@@ -32,9 +29,9 @@ pub record IsReadOf (left : Option (List ℕ)) (bytes : List ℕ) : Type 0 where
   pub is : IsAllLeft left bundle
   pub same : HoldsSame bytes bundle
 
-long : {C : Type 0} (reading : Data → Option C) (most : ℕ) (bytes : List ℕ) → most < length bytes → parts_within most reading bytes ≡ None
+long : (most : ℕ) (bytes : List ℕ) → most < length bytes → parts_within most config_in bytes ≡ None
 unfolding parts_within
-long reading most bytes more = rw (lt-leb (length bytes) most more)
+long most bytes more = rw (lt-leb (length bytes) most more)
 
 nameless : (most : ℕ) (bytes : List ℕ) → most < length bytes → image_names_within most bytes ≡ []
 unfolding image_names_within
@@ -52,15 +49,14 @@ cut_by f none most limit past all false is more =
 -- a bundle past the limit isn't read, however little past it was read
 cut : (limit : ℕ) (all : List ℕ) → limit ≡ most_bundle_bytes + 1 → HoldsSame (take limit all) all
 cut limit all is = record {
-  parts = cut_by held None most_bundle_bytes limit (long config_in most_bundle_bytes) all (nat_le (length all) most_bundle_bytes) is refl;
+  parts = cut_by held None most_bundle_bytes limit (long most_bundle_bytes) all (nat_le (length all) most_bundle_bytes) is refl;
   flaw = cut_by (flaw_in config_in) (Some TooLong) most_bundle_bytes limit (flaw-long config_in most_bundle_bytes) all (nat_le (length all) most_bundle_bytes) is refl;
   names = cut_by image_names [] most_bundle_bytes limit (nameless most_bundle_bytes) all (nat_le (length all) most_bundle_bytes) is refl;
-  handed = cut_by (parts_of inherited_in) None most_bundle_bytes limit (long inherited_in most_bundle_bytes) all (nat_le (length all) most_bundle_bytes) is refl;
 }
 
 pub read_of : (limit : ℕ) (left rest : Option (List ℕ)) (bytes items : List ℕ) → limit ≡ most_bundle_bytes + 1 → bytes ≡ items
     → ReadsFirst limit left rest items → IsReadOf left bytes
-read_of limit None rest bytes items is same reads = record { bundle = bytes; is = tt; same = record { parts = refl; flaw = refl; names = refl; handed = refl } }
+read_of limit None rest bytes items is same reads = record { bundle = bytes; is = tt; same = record { parts = refl; flaw = refl; names = refl } }
 read_of limit (Some all) rest bytes items is same reads =
     record { bundle = all; is = refl; same = subst (λ given. HoldsSame given all) (sym (same ∙ reads.0)) (cut limit all is) }
 
@@ -72,38 +68,37 @@ loses_at_most limit (Some all) new bytes reads =
     (take limit all, short, subst (λ rest. Consumes (Some all) rest (take limit all)) (sym reads.1) (sym (take-append-drop limit all)))
 
 -- all that is told was written
-pub has_told : (Tells : Telling) → Moves Tells → (old new : Devices) (bytes line text : List ℕ) (ending : Ending)
-    → IsReadOf old.left bytes → Tells bytes ending.status text ending.note → line ≡ text → Appends old.written new.written line
-    → new.failed_reads ≡ old.failed_reads → new.failed_writes ≡ old.failed_writes → HasTold Tells old new ending
-has_told Tells moves old new bytes line text ending read tells is written reads writes = record {
+pub has_told : (Tells : Answering) → Moves Tells → (old new : Devices) (bytes line text : List ℕ) (status : Status)
+    → IsReadOf old.left bytes → Tells bytes status text → line ≡ text → Appends old.written new.written line
+    → new.failed_reads ≡ old.failed_reads → new.failed_writes ≡ old.failed_writes → HasTold Tells old new status
+has_told Tells moves old new bytes line text status read tells is written reads writes = record {
   bundle = read.bundle;
   is = read.is;
   text = text;
-  tells = moves bytes read.bundle ending.status text ending.note read.same tells;
+  tells = moves bytes read.bundle status text read.same tells;
   written = subst (Appends old.written new.written) is written;
   failed_reads = reads;
   failed_writes = writes;
 }
 
 -- a write failed
-pub has_begun : (Tells : Telling) (Stopped : Stops) → Moves Tells → (old new : Devices) (bytes line text note : List ℕ) (status : Status) (fault : Fault Device)
-    → IsReadOf old.left bytes → Tells bytes status text note → line ≡ text → AppendsBeginning old.written new.written line
+pub has_begun : (Tells : Answering) (Stopped : Stops) → Moves Tells → (old new : Devices) (bytes line text : List ℕ) (status : Status) (fault : Fault Device)
+    → IsReadOf old.left bytes → Tells bytes status text → line ≡ text → AppendsBeginning old.written new.written line
     → new.failed_reads ≡ old.failed_reads → CountsFault {T = Unit {0}} old.failed_writes new.failed_writes (Err fault) → IsDevice fault
     → TellingEnds Tells Stopped old new (Err (of_edge fault))
-has_begun Tells Stopped moves old new bytes line text note status edge.Memory read tells is written reads writes device = absurd device
-has_begun Tells Stopped moves old new bytes line text note status (edge.Because failed) read tells is written reads writes device = inr (record {
+has_begun Tells Stopped moves old new bytes line text status edge.Memory read tells is written reads writes device = absurd device
+has_begun Tells Stopped moves old new bytes line text status (edge.Because failed) read tells is written reads writes device = inr (record {
   bundle = read.bundle;
   is = read.is;
   status = status;
   text = text;
-  note = note;
-  tells = moves bytes read.bundle status text note read.same tells;
+  tells = moves bytes read.bundle status text read.same tells;
   written = subst (AppendsBeginning old.written new.written) is written;
   failed_reads = reads;
   failed_writes = writes;
 })
 
-has_stopped : (Tells : Telling) (IsStopped : Stops) → MovesStops IsStopped → (old new : Devices) (bytes : List ℕ) (fault : TellFault) → IsReadOf old.left bytes
+has_stopped : (Tells : Answering) (IsStopped : Stops) → MovesStops IsStopped → (old new : Devices) (bytes : List ℕ) (fault : TellFault) → IsReadOf old.left bytes
     → IsStopped fault bytes → new.written ≡ old.written → new.failed_reads ≡ old.failed_reads → new.failed_writes ≡ old.failed_writes
     → HasStopped (IsStopped fault) old new
 has_stopped Tells IsStopped moves old new bytes fault read stops written reads writes = record {
@@ -115,7 +110,7 @@ has_stopped Tells IsStopped moves old new bytes fault read stops written reads w
 }
 
 -- nothing was told, and nothing was written
-pub faulted : (Tells : Telling) (IsStopped : Stops) → MovesStops IsStopped → (old new : Devices) (bytes : List ℕ) (fault : TellFault) → IsReadOf old.left bytes
+pub faulted : (Tells : Answering) (IsStopped : Stops) → MovesStops IsStopped → (old new : Devices) (bytes : List ℕ) (fault : TellFault) → IsReadOf old.left bytes
     → IsToldBy Tells IsStopped bytes (Err fault) → new.written ≡ old.written → new.failed_reads ≡ old.failed_reads → new.failed_writes ≡ old.failed_writes
     → TellingEnds Tells IsStopped old new (Err fault)
 faulted Tells IsStopped moves old new bytes end.Memory read told written reads writes = ((written, writes), reads)

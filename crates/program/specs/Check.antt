@@ -1,6 +1,6 @@
 -- What is written of the faults of a bundle, and how that ends (own).
 use Rattle.std.specs.Prelude.{◌≡◌, ℕ, Bool, true, false, List, Result, codes, unwrap_or}
-use Rattle.checks.specs.Checked.{IsCheckBy}
+use Rattle.checks.specs.Checked.{IsCheckOf}
 use Rattle.checks.specs.declared.checked.Checked.{Checked}
 use Rattle.checks.specs.declared.form.Form.{Form}
 use Rattle.checks.specs.declared.form.Form.TheVariants.{Plain, Json}
@@ -9,8 +9,6 @@ use Rattle.answering.specs.declared.status.Status.{Status}
 use Rattle.answering.specs.declared.status.Status.TheVariants.{Built, Failed, Refused}
 use Rattle.program.specs.declared.fault.TellFault.{TellFault}
 use Rattle.build.specs.Ends.{Devices}
-use Rattle.program.specs.declared.told.Ending.{Ending}
-use Rattle.program.specs.Noting.{noted}
 use Rattle.program.specs.Telling.{TellingEnds, never}
 
 -- what positions call the Dockerfile: by its name, or by that of the file that is chosen for it
@@ -23,14 +21,12 @@ form_by true = Json
 form_by false = Plain
 
 -- What is written of a bundle of these bytes: all its faults in a form, which is nothing if there is none. What a build refuses is such a fault, so
--- no bundle is refused. Stubs may stand for its images, and then those are noted.
-abbrev pub TellsFaults : Bool → List ℕ → Form → List ℕ → Status → List ℕ → List ℕ → Type 0
-TellsFaults any file form bytes Built text note =
-    (checked : Checked) × IsCheckBy any file bytes form checked × (checked.is_sound ≡ true) × ((text ≡ checked.text) × (note ≡ noted checked.note))
-TellsFaults any file form bytes Failed text note =
-    (checked : Checked) × IsCheckBy any file bytes form checked × (checked.is_sound ≡ false) × ((text ≡ checked.text) × (note ≡ noted checked.note))
-TellsFaults any file form bytes Refused text note = ⊥
+-- no bundle is refused.
+abbrev pub TellsFaults : List ℕ → Form → List ℕ → Status → List ℕ → Type 0
+TellsFaults file form bytes Built text = (checked : Checked) × IsCheckOf file bytes form checked × (checked.is_sound ≡ true) × (text ≡ checked.text)
+TellsFaults file form bytes Failed text = (checked : Checked) × IsCheckOf file bytes form checked × (checked.is_sound ≡ false) × (text ≡ checked.text)
+TellsFaults file form bytes Refused text = ⊥
 
 -- how writing it ends; it never stops
-abbrev pub CheckEnds : Bool → List ℕ → Form → Devices → Devices → Result Ending TellFault → Type 0
-CheckEnds any file form old new ended = TellingEnds (TellsFaults any file form) never old new ended
+abbrev pub CheckEnds : List ℕ → Form → Devices → Devices → Result Status TellFault → Type 0
+CheckEnds file form old new ended = TellingEnds (TellsFaults file form) never old new ended

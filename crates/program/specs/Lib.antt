@@ -1,15 +1,9 @@
-pub mod Addressed
 pub mod Check
-pub mod Chosen
 pub mod Config
-pub mod Descending
 pub mod Dot
-pub mod Engine
 pub mod Explain
 pub mod Faults
-pub mod Images
 pub mod Llb
-pub mod Noting
 pub mod PrivateInput
 pub mod PrivateLlb
 pub mod PrivateMoved

@@ -9,7 +9,7 @@ use Rattle.program.specs.declared.input.Input.{Input}
 use Rattle.program.specs.declared.input.Input.TheVariants.{Given, File, Folder}
 use Rattle.program.specs.declared.input.Packing.{Packing}
 use Rattle.program.specs.declared.input.TextReader.{TextReader}
-use Rattle.program.specs.Runs.{IsShut, IsUnopened, RefusesChoice, TellsPassed, asked_for}
+use Rattle.program.specs.Runs.{IsShut, IsUnopened, RefusesChoice, asked_for}
 use Rattle.program.specs.Saying.{Stream}
 
 -- how many reads of a file failed
@@ -27,17 +27,16 @@ pub record IsOfFile (place : Option (List ℕ)) (choice : Choice) (failed : ℕ)
   pub free : misplaced choice ≡ None
   pub none : failed ≡ 0
 
--- a text is that of a folder's bundle, and no larger than one may be; notes tell what was passed over in the folder
-pub record IsTextOf (choice : Choice) (packing : Packing) (text notes : List ℕ) : Type 0 where
+-- a text is that of a folder's bundle, and no larger than one may be
+pub record IsTextOf (choice : Choice) (packing : Packing) (text : List ℕ) : Type 0 where
   pub packs : PacksText (asked_for choice packing) (Ok (Some text))
   pub short : length text ≤ most_bundle_bytes
-  pub passed : TellsPassed (asked_for choice packing).pass notes
 
 -- what a bundle is read from was opened
 abbrev pub IsOpened : {T : Type 0} → Option (List ℕ) → Choice → Packing → Input T → Type 0
 IsOpened place choice packing Given = place ≡ None
 IsOpened place choice packing (File file) = IsOfFile place choice (failures_of file)
-IsOpened place choice packing (Folder folder) = ((name : List ℕ) × (place ≡ Some name)) × IsTextOf choice packing folder.text folder.notes
+IsOpened place choice packing (Folder folder) = ((name : List ℕ) × (place ≡ Some name)) × IsTextOf choice packing folder.text
 
 -- or it wasn't
 abbrev pub IsNotOpened : Option (List ℕ) → Choice → Packing → Stream → Stream → ℕ → Type 0

@@ -1,5 +1,5 @@
 -- What the program does with a command line: what it writes where, and the status that it ends with (own).
-use Rattle.std.specs.Prelude.{◌≡◌, ◌≢◌, ◌⊎◌, ◌<◌, ◌≤◌, ℕ, List, map, Bool, true, false, length, [], ◌∷◌, ◌++◌, Option, Some, None, is_some, Result, Ok, Err, ⊤, codes}
+use Rattle.std.specs.Prelude.{◌≡◌, ◌≢◌, ◌⊎◌, ◌<◌, ◌≤◌, ℕ, List, map, Bool, true, false, length, [], ◌++◌, Option, Some, None, is_some, Result, Ok, Err, ⊤, codes}
 use Rattle.std.specs.Borrow.{Bor}
 use Rattle.plain.specs.declared.fault.Fault.{Fault}
 use Rattle.plain.specs.declared.fault.Fault.TheVariants.{Because, Memory}
@@ -11,12 +11,10 @@ use Rattle.command.specs.CommandLine.{whole_command}
 use Rattle.command.specs.Sources.{misplaced}
 use Rattle.command.specs.Tasks.{IsTaskOf, faults_of}
 use Rattle.command.specs.declared.task.Choice.{Choice}
-use Rattle.command.specs.declared.task.ImageNeed.{ImageNeed}
-use Rattle.command.specs.declared.task.ImageNeed.TheVariants.{Usual, Any, All}
 use Rattle.command.specs.declared.task.PackOptions.{PackOptions}
 use Rattle.command.specs.declared.task.Source.{Source}
 use Rattle.command.specs.declared.task.Task.{Task}
-use Rattle.command.specs.declared.task.Task.TheVariants.{Build, Graph, Pack, Why, Llb, Config, Images, Check, Explain}
+use Rattle.command.specs.declared.task.Task.TheVariants.{Build, Graph, Pack, Why, Llb, Config, Check, Explain}
 use Rattle.plain.specs.Limits.{most_bundle_bytes}
 use Rattle.plans.specs.Value.{Out}
 use Rattle.answering.specs.declared.status.Status.{Status}
@@ -27,18 +25,16 @@ use Rattle.program.specs.declared.input.Packing.TheVariants.{Kept, KeptNames, Al
 use Rattle.program.specs.declared.fault.TellFault.TheVariants.{Clash, Device, Memory as NoMemory, Unspeakable}
 use Rattle.build.specs.Ends.{Devices, Ends, devices}
 use Rattle.answering.specs.Faults.{exit_status}
-use Rattle.program.specs.Faults.{EndsAs, fault_text, status_in}
+use Rattle.program.specs.Faults.{EndsAs, fault_text}
 use Rattle.packing.specs.Ends.{IsPacking, PacksFolder, PacksText, fault_text as pack_fault_text}
 use Rattle.packing.specs.Packed.{Asked}
 use Rattle.packing.specs.declared.fault.PackFault.{PackFault}
 use Rattle.packing.specs.declared.fault.PackFault.TheVariants.{Memory as PackMemory}
 use Rattle.program.specs.declared.arguments.NotText.{NotText}
-use Rattle.program.specs.declared.told.Ending.{Ending}
 use Rattle.program.specs.Check.{CheckEnds, file_shown, form_by}
 use Rattle.program.specs.Config.{ConfigEnds}
 use Rattle.program.specs.Dot.{DrawingEnds}
 use Rattle.program.specs.Explain.{ExplainEnds}
-use Rattle.program.specs.Images.{ImagesEnd}
 use Rattle.program.specs.Llb.{LlbEnds}
 use Rattle.program.specs.Saying.{Stream, Says}
 use Rattle.program.specs.Why.{WhyEnds}
@@ -56,26 +52,17 @@ streams devices errors = record { devices = devices; errors = errors }
 abbrev pub output_of : Streams → Stream
 output_of now = record { written = now.devices.written; failed = now.devices.failed_writes }
 
--- a text is said, if it isn't empty
-abbrev pub SaysText : List ℕ → Stream → Stream → Type 0
-SaysText [] old new = new ≡ old
-SaysText (c ∷ cs) old new = Says (c ∷ cs) old new
-
--- what is said of how a call ended: the note of an answer that was written, else why there is none
-abbrev pub end_text : Result Ending TellFault → List ℕ
-end_text (Ok ending) = ending.note
-end_text (Err fault) = line_of (fault_text fault)
-
--- it is said on the stream for errors
-abbrev pub SaysEnd : Result Ending TellFault → Stream → Stream → Type 0
-SaysEnd ended old new = SaysText (end_text ended) old new
+-- what is said on the stream for errors of how a build ended: nothing where an answer was written, else why there is none
+abbrev pub SaysEnd : Result Status TellFault → Stream → Stream → Type 0
+SaysEnd (Ok status) old new = new ≡ old
+SaysEnd (Err fault) old new = Says (line_of (fault_text fault)) old new
 
 -- a call that ends so was made, and the program ends with its status
-pub record Calls (EndsSo : Devices → Devices → Result Ending TellFault → Type 0) (old new : Streams) (status : ℕ) : Type 0 where
-  pub ended : Result Ending TellFault
+pub record Calls (EndsSo : Devices → Devices → Result Status TellFault → Type 0) (old new : Streams) (status : ℕ) : Type 0 where
+  pub ended : Result Status TellFault
   pub ends : EndsSo old.devices new.devices ended
   pub says : SaysEnd ended old.errors new.errors
-  pub is : status ≡ exit_status (status_in ended)
+  pub is : status ≡ exit_status ended
 
 -- that something isn't done is said, and why, or as much of that as there was memory for
 pub record SaysBecause (front why : List ℕ) (old new : Stream) : Type 0 where
@@ -98,20 +85,20 @@ pub record SaysNamed (name : List ℕ) (old new : Stream) : Type 0 where
   pub says : Says (line_of (fault_text Device ++ told)) old new
 
 -- what is said of how a call on a file of this name ended: what is said of one on the reader, and where a device failed, the file's name too
-abbrev pub SaysFileEnd : List ℕ → Result Ending TellFault → Stream → Stream → Type 0
+abbrev pub SaysFileEnd : List ℕ → Result Status TellFault → Stream → Stream → Type 0
 SaysFileEnd name ended old new = SaysEnd ended old new ⊎ ((ended ≡ Err Device) × SaysNamed name old new)
 
 -- A call that ends so was made on the file of this name, none of whose reads had failed, and beside which nothing is chosen; the program ends with its
 -- status. What the file holds is in no contract: what ended so is said for some bytes that it has left, or for bytes that aren't known.
-pub record CallsFile (name : List ℕ) (choice : Choice) (EndsSo : Devices → Devices → Result Ending TellFault → Type 0) (output new_output errors new_errors : Stream) (status : ℕ) : Type 0 where
+pub record CallsFile (name : List ℕ) (choice : Choice) (EndsSo : Devices → Devices → Result Status TellFault → Type 0) (output new_output errors new_errors : Stream) (status : ℕ) : Type 0 where
   pub free : misplaced choice ≡ None
   pub left : Option (List ℕ)
   pub left_then : Option (List ℕ)
   pub failed_reads : ℕ
-  pub ended : Result Ending TellFault
+  pub ended : Result Status TellFault
   pub ends : EndsSo (devices left 0 output.written output.failed) (devices left_then failed_reads new_output.written new_output.failed) ended
   pub says : SaysFileEnd name ended errors new_errors
-  pub is : status ≡ exit_status (status_in ended)
+  pub is : status ≡ exit_status ended
 
 -- what is asked for of a folder of which this is chosen
 abbrev pub asked_with : Choice → Bool → Bool → Bool → Asked
@@ -132,28 +119,26 @@ asked_for choice Kept = asked_with choice true false false
 asked_for choice KeptNames = asked_with choice true true true
 asked_for choice AllNames = asked_with choice false true true
 
--- notes tell what was passed over in a folder: where nothing may be, there are none
-abbrev pub TellsPassed : Bool → List ℕ → Type 0
-TellsPassed false notes = notes ≡ []
-TellsPassed true notes = ⊤
+-- a text is said, and before it what was passed over in a folder
+abbrev pub SaysAfterNotes : List ℕ → Stream → Stream → Type 0
+SaysAfterNotes text old new = (notes : List ℕ) × Says (notes ++ text) old new
 
--- a text is said, and notes before it, or the text alone where there was no memory for both
-abbrev pub SaysAfter : List ℕ → List ℕ → Stream → Stream → Type 0
-SaysAfter notes text old new = SaysText (notes ++ text) old new ⊎ SaysText text old new
+-- what is said of how a call on a folder's bundle ended
+abbrev pub end_text : Result Status TellFault → List ℕ
+end_text (Ok status) = []
+end_text (Err fault) = line_of (fault_text fault)
 
 -- A folder was packed for what is asked, and a call that ends so was made on the text of its bundle, of which no read failed. What was passed over in
--- the folder is said, and then how the call ended, and the program ends with the call's status.
-pub record CallsFolder (asked : Asked) (EndsSo : Devices → Devices → Result Ending TellFault → Type 0) (output new_output errors new_errors : Stream) (status : ℕ) : Type 0 where
+-- the folder is said, and the program ends with the call's status.
+pub record CallsFolder (asked : Asked) (EndsSo : Devices → Devices → Result Status TellFault → Type 0) (output new_output errors new_errors : Stream) (status : ℕ) : Type 0 where
   pub text : List ℕ
   pub packs : PacksText asked (Ok (Some text))
   pub short : length text ≤ most_bundle_bytes
   pub left_then : Option (List ℕ)
-  pub ended : Result Ending TellFault
+  pub ended : Result Status TellFault
   pub ends : EndsSo (devices (Some text) 0 output.written output.failed) (devices left_then 0 new_output.written new_output.failed) ended
-  pub notes : List ℕ
-  pub passed : TellsPassed asked.pass notes
-  pub says : SaysAfter notes (end_text ended) errors new_errors
-  pub is : status ≡ exit_status (status_in ended)
+  pub says : SaysAfterNotes (end_text ended) errors new_errors
+  pub is : status ≡ exit_status ended
 
 -- what is said of how packing ended: nothing where a bundle was written, else why there is none
 abbrev pub SaysPack : Result Status PackFault → Stream → Stream → Type 0
@@ -187,7 +172,7 @@ pub record IsUnopened (name : List ℕ) (old new : Stream) (status : ℕ) : Type
   pub fault : TellFault
   pub fails : IsOpenFault fault
   pub says : SaysFileEnd name (Err fault) old new
-  pub is : status ≡ exit_status (status_in (Err fault))
+  pub is : status ≡ exit_status (Err fault)
 
 -- what is chosen goes with a folder alone
 pub record RefusesChoice (choice : Choice) (old new : Stream) (status : ℕ) : Type 0 where
@@ -201,13 +186,12 @@ abbrev pub IsShut : List ℕ → Choice → Packing → Stream → Stream → �
 IsShut name choice packing old new status =
     IsUnopened name old new status ⊎ (HasNoBundle (asked_for choice packing) old new status ⊎ RefusesChoice choice old new status)
 
--- A call that ends so was made on the file of this name; or one that ends as of a folder on the bundle of the folder of this name, of which something may
--- be chosen and which is packed so; or none was made, and nothing was written. What the machine has of that name is in no contract.
-abbrev pub CallsPlace : List ℕ → Choice → Packing → (Devices → Devices → Result Ending TellFault → Type 0) → (Devices → Devices → Result Ending TellFault → Type 0)
-    → Stream → Stream → Stream → Stream → ℕ → Type 0
-CallsPlace name choice packing EndsSo OfFolder output new_output errors new_errors status =
+-- A call that ends so was made on the file of this name, or on the bundle of the folder of this name, of which something may be chosen and
+-- which is packed so; or it wasn't made, and nothing was written. What the machine has of that name is in no contract.
+abbrev pub CallsPlace : List ℕ → Choice → Packing → (Devices → Devices → Result Status TellFault → Type 0) → Stream → Stream → Stream → Stream → ℕ → Type 0
+CallsPlace name choice packing EndsSo output new_output errors new_errors status =
     CallsFile name choice EndsSo output new_output errors new_errors status
-    ⊎ (CallsFolder (asked_for choice packing) OfFolder output new_output errors new_errors status
+    ⊎ (CallsFolder (asked_for choice packing) EndsSo output new_output errors new_errors status
     ⊎ ((new_output ≡ output) × IsShut name choice packing errors new_errors status))
 
 -- nothing was read
@@ -259,43 +243,26 @@ SaysKind kind output new_output errors new_errors =
 abbrev pub OnWriters : (Stream → Stream → Stream → Stream → ℕ → Type 0) → Streams → Streams → ℕ → Type 0
 OnWriters Said old new status = IsUnread old new × Said (output_of old) (output_of new) old.errors new.errors status
 
--- A call that ends so was made: on the reader, or on what is named, and then nothing was read from the reader. On a folder's bundle it ends as of
--- a folder.
-abbrev pub CallsBy : Option (List ℕ) → Choice → Packing → (Devices → Devices → Result Ending TellFault → Type 0) → (Devices → Devices → Result Ending TellFault → Type 0)
-    → Streams → Streams → ℕ → Type 0
-CallsBy None choice packing EndsSo OfFolder old new status = Calls EndsSo old new status
-CallsBy (Some name) choice packing EndsSo OfFolder old new status = OnWriters (CallsPlace name choice packing EndsSo OfFolder) old new status
+-- A call that ends so was made: on the reader, or on what is named, and then nothing was read from the reader.
+abbrev pub CallsBy : Option (List ℕ) → Choice → Packing → (Devices → Devices → Result Status TellFault → Type 0) → Streams → Streams → ℕ → Type 0
+CallsBy None choice packing EndsSo old new status = Calls EndsSo old new status
+CallsBy (Some name) choice packing EndsSo old new status = OnWriters (CallsPlace name choice packing EndsSo) old new status
 
 -- the same of what the words name; a folder is packed so
-abbrev pub CallsOnEach : Source → Packing → (Devices → Devices → Result Ending TellFault → Type 0) → (Devices → Devices → Result Ending TellFault → Type 0)
-    → Streams → Streams → ℕ → Type 0
-CallsOnEach source packing EndsSo OfFolder old new status = CallsBy source.place source.choice packing EndsSo OfFolder old new status
+abbrev pub CallsOn : Source → Packing → (Devices → Devices → Result Status TellFault → Type 0) → Streams → Streams → ℕ → Type 0
+CallsOn source packing EndsSo old new status = CallsBy source.place source.choice packing EndsSo old new status
 
--- the same where it makes no difference whether a bundle is that of a folder
-abbrev pub CallsOn : Source → Packing → (Devices → Devices → Result Ending TellFault → Type 0) → Streams → Streams → ℕ → Type 0
-CallsOn source packing EndsSo old new status = CallsOnEach source packing EndsSo EndsSo old new status
-
--- stubs may stand for images that aren't given: of a folder, unless its images are asked for, and of another bundle only if that is asked for
-abbrev pub any_image : ImageNeed → Bool → Bool
-any_image Usual of_folder = of_folder
-any_image Any of_folder = true
-any_image All of_folder = false
-
--- A task was done: a build was run, a graph was drawn or written for BuildKit, a folder was packed, or the target's configuration was printed, the
--- images that stages name, all faults of a bundle, which instruction fails, or why paths are kept or left out. A build and its explanation alone read
--- the files of a folder, and what BuildKit is given of it leaves out what the ignore file does, which the graph says of each path.
+-- a task was done: a build was run, a graph was drawn or written for BuildKit, a folder was packed, or the target's configuration was printed, all
+-- faults of a bundle, which instruction fails, or why paths are kept or left out; a build and its explanation alone read the files of a folder, and what
+-- BuildKit is given of it leaves out what the ignore file does, which the graph says of each path
 abbrev pub Does : Out → Task → Streams → Streams → ℕ → Type 0
 Does out (Build options) old new status = CallsOn options.source Kept (EndsAs (Ends out)) old new status
-Does out (Graph options) old new status =
-    CallsOnEach options.source KeptNames (DrawingEnds options.dot (any_image options.images false)) (DrawingEnds options.dot (any_image options.images true)) old new status
+Does out (Graph options) old new status = CallsOn options.source KeptNames (DrawingEnds options.dot) old new status
 Does out (Pack options) old new status = OnWriters (Packs options) old new status
 Does out (Why options) old new status = CallsOn options.source KeptNames (WhyEnds options.paths) old new status
 Does out (Llb options) old new status = CallsOn options.source AllNames (LlbEnds options) old new status
-Does out (Config options) old new status = CallsOn options.source KeptNames (ConfigEnds options) old new status
-Does out (Images options) old new status = CallsOn options.source KeptNames (ImagesEnd options.platform) old new status
-Does out (Check options) old new status =
-    CallsOnEach options.source KeptNames (CheckEnds (any_image options.images false) (file_shown options.source.choice) (form_by options.json))
-    (CheckEnds (any_image options.images true) (file_shown options.source.choice) (form_by options.json)) old new status
+Does out (Config source) old new status = CallsOn source KeptNames ConfigEnds old new status
+Does out (Check options) old new status = CallsOn options.source KeptNames (CheckEnds (file_shown options.source.choice) (form_by options.json)) old new status
 Does out (Explain source) old new status = CallsOn source Kept (ExplainEnds (file_shown source.choice) out) old new status
 
 -- a mistake in the words

@@ -1,39 +1,29 @@
 -- How a call ends that reads a bundle and writes something of it: what it leaves of its reader and its writer (own).
-use Rattle.std.specs.Prelude.{◌≡◌, ◌⊎◌, ℕ, ◌+◌, List, [], Result, Ok, Err}
+use Rattle.std.specs.Prelude.{◌≡◌, ◌⊎◌, ℕ, ◌+◌, List, Result, Ok, Err}
 use Rattle.std.specs.Io.KnownBytes.{Appends}
 use Rattle.counted.specs.Edges.{AppendsBeginning}
 use Rattle.answering.specs.declared.status.Status.{Status}
 use Rattle.program.specs.declared.fault.TellFault.{TellFault}
 use Rattle.program.specs.declared.fault.TellFault.TheVariants.{Memory, Device, Clash, Unspeakable}
-use Rattle.program.specs.declared.told.Ending.{Ending}
 use Rattle.build.specs.Ends.{Answering, Devices, IsAllLeft, LeavesWriter}
 
--- what is due of a bundle of these bytes: a status, a text that is written, and a note, which is said after that; where there is none it is empty
-abbrev pub Telling : Type 1
-Telling = List ℕ → Status → List ℕ → List ℕ → Type 0
-
--- the same where nothing is noted
-abbrev pub quietly : Answering → Telling
-quietly Answers bytes status text note = Answers bytes status text × (note ≡ [])
-
--- what is due of a bundle was written, and no call failed; its status and its note are left to be told
-pub record HasTold (Tells : Telling) (old new : Devices) (ending : Ending) : Type 0 where
+-- what is due of a bundle was written, and no call failed
+pub record HasTold (Tells : Answering) (old new : Devices) (status : Status) : Type 0 where
   pub bundle : List ℕ
   pub is : IsAllLeft old.left bundle
   pub text : List ℕ
-  pub tells : Tells bundle ending.status text ending.note
+  pub tells : Tells bundle status text
   pub written : Appends old.written new.written text
   pub failed_reads : new.failed_reads ≡ old.failed_reads
   pub failed_writes : new.failed_writes ≡ old.failed_writes
 
 -- a write failed, and a beginning of what is due of a bundle was written
-pub record HasBegunTelling (Tells : Telling) (old new : Devices) : Type 0 where
+pub record HasBegunTelling (Tells : Answering) (old new : Devices) : Type 0 where
   pub bundle : List ℕ
   pub is : IsAllLeft old.left bundle
   pub status : Status
   pub text : List ℕ
-  pub note : List ℕ
-  pub tells : Tells bundle status text note
+  pub tells : Tells bundle status text
   pub written : AppendsBeginning old.written new.written text
   pub failed_reads : new.failed_reads ≡ old.failed_reads
   pub failed_writes : new.failed_writes ≡ old.failed_writes + 1
@@ -57,8 +47,8 @@ pub record HasStopped (IsStopped : List ℕ → Type 0) (old new : Devices) : Ty
 -- How such a call ends, by its result: what is due of the bundle was written; there was no memory, and nothing was written; a read failed, and
 -- nothing was written, or a write failed; or nothing is due, since two operations clash or something can't be said to BuildKit, and nothing was
 -- written. Unlike a build's answer, what is written gets no LF at its end.
-abbrev pub TellingEnds : Telling → Stops → Devices → Devices → Result Ending TellFault → Type 0
-TellingEnds Tells IsStopped old new (Ok ending) = HasTold Tells old new ending
+abbrev pub TellingEnds : Answering → Stops → Devices → Devices → Result Status TellFault → Type 0
+TellingEnds Tells IsStopped old new (Ok status) = HasTold Tells old new status
 TellingEnds Tells IsStopped old new (Err Memory) = LeavesWriter old new × (new.failed_reads ≡ old.failed_reads)
 TellingEnds Tells IsStopped old new (Err Device) = (LeavesWriter old new × (new.failed_reads ≡ old.failed_reads + 1)) ⊎ HasBegunTelling Tells old new
 TellingEnds Tells IsStopped old new (Err Clash) = HasStopped (IsStopped Clash) old new

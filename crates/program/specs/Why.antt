@@ -11,8 +11,7 @@ use Rattle.answering.specs.declared.status.Status.{Status}
 use Rattle.answering.specs.declared.status.Status.TheVariants.{Built, Failed, Refused}
 use Rattle.program.specs.declared.fault.TellFault.{TellFault}
 use Rattle.build.specs.Ends.{Devices}
-use Rattle.program.specs.declared.told.Ending.{Ending}
-use Rattle.program.specs.Telling.{TellingEnds, never, quietly}
+use Rattle.program.specs.Telling.{TellingEnds, never}
 
 -- what is written of paths for a bundle of these bytes: a line for each path, or the refusal of the bundle as a line
 abbrev pub TellsWhy : List (List ℕ) → List ℕ → Status → List ℕ → Type 0
@@ -22,5 +21,5 @@ TellsWhy paths bytes Refused text =
     (refusal : Refusal) × TellsReasons config_in bytes paths (Err (Because refusal)) × (text ≡ line_of (refused_text (rejection_of refusal)))
 
 -- how writing it ends; it never stops
-abbrev pub WhyEnds : List (List ℕ) → Devices → Devices → Result Ending TellFault → Type 0
-WhyEnds paths old new ended = TellingEnds (quietly (TellsWhy paths)) never old new ended
+abbrev pub WhyEnds : List (List ℕ) → Devices → Devices → Result Status TellFault → Type 0
+WhyEnds paths old new ended = TellingEnds (TellsWhy paths) never old new ended

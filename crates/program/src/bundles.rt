@@ -1,27 +1,24 @@
-// What is done with a bundle: it is built, its graph is drawn or written for BuildKit, its target's configuration, the images that its stages name
-// or its faults are printed, or it is said which instruction of it fails, or why paths of its context are kept or left out. The bundle is on the
-// reader, in a file, or made of a folder.
+// What is done with a bundle: it is built, its graph is drawn or written for BuildKit, its target's configuration or its faults are printed, or it is
+// said which instruction of it fails, or why paths of its context are kept or left out. The bundle is on the reader, in a file, or made of a folder.
 //
 // Each of these opens what the bundle is read from, once, and makes one call on it. The calls are generic in the reader, and only of the program's own
 // is it known afterwards what it has left; so each opened reader has an arm of its own.
 ghost use Rattle.std.specs.Prelude.{◌≡◌, ◌<◌, ◌≤◌, ◌+◌, [], unwrap_or};
 ghost use Rattle.counted.specs.Edges.{LosesBeginning};
 ghost use Rattle.plain.specs.Limits.{most_bundle_bytes, most_workers};
-ghost use Rattle.build.specs.Ends.{Ends, devices};
+ghost use Rattle.build.specs.Ends.{Ends, GraphEnds, devices};
 ghost use Rattle.program.specs.Faults.{EndsAs};
 ghost use Rattle.program.specs.Check.{CheckEnds, file_shown, form_by};
 ghost use Rattle.program.specs.Config.{ConfigEnds};
 ghost use Rattle.program.specs.Dot.{DrawingEnds};
 ghost use Rattle.program.specs.Explain.{ExplainEnds};
-ghost use Rattle.program.specs.Images.{ImagesEnd};
 ghost use Rattle.program.specs.Llb.{LlbEnds};
 ghost use Rattle.program.specs.declared.input.Packing.TheVariants.{AllNames, Kept, KeptNames};
-ghost use Rattle.program.specs.Runs.{CallsOn, CallsOnEach, any_image, streams};
+ghost use Rattle.program.specs.Runs.{CallsOn, streams};
 ghost use Rattle.program.specs.Saying.{stream};
 ghost use Rattle.program.specs.Telling.{TellingEnds};
 ghost use Rattle.program.specs.Why.{WhyEnds};
 
-use crate::addressing::AddressTeller;
 use crate::checking::FaultTeller;
 use crate::config::ConfigTeller;
 use crate::ending::{finish, finish_file, finish_folder};
@@ -29,17 +26,12 @@ use crate::explaining::explain_bundle;
 use crate::exporting::DefinitionTeller;
 use crate::fault::{TellFault, as_told};
 use crate::input::{Input, Packing, TextReader, open_input};
-use crate::listing::ImageTeller;
 use crate::picturing::PictureTeller;
 use crate::telling::{Teller, tell_bundle};
-use crate::told::Ending;
 use crate::why::PathTeller;
-use build::{Remains, run_build_keeping};
+use build::{Remains, Status, run_build_keeping, run_graph};
 use checks::Form;
-use command::{
-    BuildOptions, CheckOptions, Choice, ConfigOptions, GraphOptions, ImageNeed, ImagesOptions,
-    LlbOptions, Source, WhyOptions,
-};
+use command::{BuildOptions, CheckOptions, Choice, GraphOptions, LlbOptions, Source, WhyOptions};
 use counted::{CountedRead, CountedWrite};
 use executor::Executor;
 use memo::Memo;
@@ -109,7 +101,7 @@ fn build_anew<R: CountedRead, W: CountedWrite, E: Executor>(
     output: &mut W,
     executor: &E,
     workers: u32,
-) -> Result<Ending, TellFault>
+) -> Result<Status, TellFault>
     requires workers { (0 < workers) × (workers ≤ most_workers) }
     requires reads { R.failures input.old < u64.MAX }
     requires writes { W.failures output.old < u64.MAX }
@@ -135,7 +127,7 @@ fn build_anew<R: CountedRead, W: CountedWrite, E: Executor>(
     );
     drop(memo);
     leave(remains);
-    as_told(alloc, ended)
+    as_told(ended)
 }
 
 /// Leaves what a build held to the system, which takes it back at once where letting it go would take a step for each file.
@@ -162,48 +154,93 @@ pub(crate) fn draw_bundle<
     requires reads { R.failures input.old < u64.MAX }
     requires writes { W.failures output.old < u64.MAX }
     requires says { S.failures errors.old < u64.MAX }
-    ensures calls { CallsOnEach options.now.source KeptNames
-        (DrawingEnds options.now.dot (any_image options.now.images false)) (DrawingEnds options.now.dot (any_image options.now.images true))
+    ensures calls { CallsOn options.now.source KeptNames (DrawingEnds options.now.dot)
         (streams (devices (R.remaining input.old) (R.failures input.old) (W.contents output.old) (W.failures output.old)) (stream (S.contents errors.old) (S.failures errors.old)))
         (streams (devices (R.remaining input.new) (R.failures input.new) (W.contents output.new) (W.failures output.new)) (stream (S.contents errors.new) (S.failures errors.new)))
         result }
     ensures taken { LosesBeginning (most_bundle_bytes + 1) (R.remaining input.old) (R.remaining input.new) }
 {
     let source = &options.source;
-    let packing = Packing::KeptNames;
-    let need = options.images;
     if options.dot {
-        let teller = PictureTeller {
-            any_image: any_image(need, false),
-        };
-        let of_folder = PictureTeller {
-            any_image: any_image(need, true),
-        };
-        tell_each(
-            alloc, keys, rt, files, source, packing, &teller, &of_folder, input, output, errors,
+        let teller = &PictureTeller;
+        tell_by(
+            alloc,
+            keys,
+            rt,
+            files,
+            source,
+            Packing::KeptNames,
+            teller,
+            input,
+            output,
+            errors,
         )
     } else {
-        let teller = AddressTeller {
-            any_image: any_image(need, false),
-        };
-        let of_folder = AddressTeller {
-            any_image: any_image(need, true),
-        };
-        tell_each(
-            alloc, keys, rt, files, source, packing, &teller, &of_folder, input, output, errors,
-        )
+        graph_bundle(alloc, keys, rt, files, source, input, output, errors)
     }
 }
 
-/// Whether stubs stand for images that aren't given.
-fn any_image(images: ImageNeed, of_folder: bool) -> bool
-    ensures { result ≡ any_image images of_folder }
+/// Draws the graph of a bundle by content addresses.
+fn graph_bundle<
+    F: Files + AllocGlobal + Clone + Drop,
+    R: CountedRead,
+    W: CountedWrite,
+    S: CountedWrite,
+>(
+    alloc: Global,
+    keys: RandomState,
+    rt: &(impl Threads + Sync),
+    files: &F,
+    source: &Source,
+    input: &mut R,
+    output: &mut W,
+    errors: &mut S,
+) -> u8
+    requires reads { R.failures input.old < u64.MAX }
+    requires writes { W.failures output.old < u64.MAX }
+    requires says { S.failures errors.old < u64.MAX }
+    ensures calls { CallsOn source.now KeptNames (EndsAs GraphEnds)
+        (streams (devices (R.remaining input.old) (R.failures input.old) (W.contents output.old) (W.failures output.old)) (stream (S.contents errors.old) (S.failures errors.old)))
+        (streams (devices (R.remaining input.new) (R.failures input.new) (W.contents output.new) (W.failures output.new)) (stream (S.contents errors.new) (S.failures errors.new)))
+        result }
+    ensures taken { LosesBeginning (most_bundle_bytes + 1) (R.remaining input.old) (R.remaining input.new) }
 {
-    match images {
-        ImageNeed::Usual => of_folder,
-        ImageNeed::Any => true,
-        ImageNeed::All => false,
+    match open_input(alloc, keys, files, source, Packing::KeptNames, errors) {
+        Ok(Input::Given) => {
+            let ended = draw_anew(alloc, keys, rt, input, output);
+            finish(errors, ended)
+        }
+        Ok(Input::File(file)) => {
+            let mut reader = file;
+            let ended = draw_anew(alloc, keys, rt, &mut reader, output);
+            finish_file(alloc, errors, ended, place_of(source), reader.why)
+        }
+        Ok(Input::Folder(folder)) => {
+            let mut reader = TextReader::new(folder.text.as_str());
+            let ended = draw_anew(alloc, keys, rt, &mut reader, output);
+            finish_folder(alloc, errors, ended, folder.notes.as_str())
+        }
+        Err(status) => status,
     }
+}
+
+/// Draws the graph of a bundle that is read from here.
+fn draw_anew<R: CountedRead, W: CountedWrite>(
+    alloc: Global,
+    keys: RandomState,
+    rt: &(impl Threads + Sync),
+    input: &mut R,
+    output: &mut W,
+) -> Result<Status, TellFault>
+    requires reads { R.failures input.old < u64.MAX }
+    requires writes { W.failures output.old < u64.MAX }
+    ensures ends { EndsAs GraphEnds
+        (devices (R.remaining input.old) (R.failures input.old) (W.contents output.old) (W.failures output.old))
+        (devices (R.remaining input.new) (R.failures input.new) (W.contents output.new) (W.failures output.new))
+        result }
+    ensures taken { LosesBeginning (most_bundle_bytes + 1) (R.remaining input.old) (R.remaining input.new) }
+{
+    as_told(run_graph(alloc, keys, rt, input, output))
 }
 
 /// Prints why paths of a bundle's context are kept or left out, and gives the status to end with.
@@ -301,7 +338,7 @@ pub(crate) fn tell_config<
     keys: RandomState,
     rt: &(impl Threads + Wait + Sync),
     files: &F,
-    options: &ConfigOptions,
+    source: &Source,
     input: &mut R,
     output: &mut W,
     errors: &mut S,
@@ -309,52 +346,24 @@ pub(crate) fn tell_config<
     requires reads { R.failures input.old < u64.MAX }
     requires writes { W.failures output.old < u64.MAX }
     requires says { S.failures errors.old < u64.MAX }
-    ensures calls { CallsOn options.now.source KeptNames (ConfigEnds options.now)
+    ensures calls { CallsOn source.now KeptNames ConfigEnds
         (streams (devices (R.remaining input.old) (R.failures input.old) (W.contents output.old) (W.failures output.old)) (stream (S.contents errors.old) (S.failures errors.old)))
         (streams (devices (R.remaining input.new) (R.failures input.new) (W.contents output.new) (W.failures output.new)) (stream (S.contents errors.new) (S.failures errors.new)))
         result }
     ensures taken { LosesBeginning (most_bundle_bytes + 1) (R.remaining input.old) (R.remaining input.new) }
 {
-    let teller = ConfigTeller { options };
-    let source = &options.source;
-    let packing = Packing::KeptNames;
+    let teller = &ConfigTeller;
     tell_by(
-        alloc, keys, rt, files, source, packing, &teller, input, output, errors,
-    )
-}
-
-/// Prints the images that a bundle's stages name, and gives the status to end with.
-pub(crate) fn list_bundle<
-    F: Files + AllocGlobal + Clone + Drop,
-    R: CountedRead,
-    W: CountedWrite,
-    S: CountedWrite,
->(
-    alloc: Global,
-    keys: RandomState,
-    rt: &(impl Threads + Wait + Sync),
-    files: &F,
-    options: &ImagesOptions,
-    input: &mut R,
-    output: &mut W,
-    errors: &mut S,
-) -> u8
-    requires reads { R.failures input.old < u64.MAX }
-    requires writes { W.failures output.old < u64.MAX }
-    requires says { S.failures errors.old < u64.MAX }
-    ensures calls { CallsOn options.now.source KeptNames (ImagesEnd options.now.platform)
-        (streams (devices (R.remaining input.old) (R.failures input.old) (W.contents output.old) (W.failures output.old)) (stream (S.contents errors.old) (S.failures errors.old)))
-        (streams (devices (R.remaining input.new) (R.failures input.new) (W.contents output.new) (W.failures output.new)) (stream (S.contents errors.new) (S.failures errors.new)))
-        result }
-    ensures taken { LosesBeginning (most_bundle_bytes + 1) (R.remaining input.old) (R.remaining input.new) }
-{
-    let teller = ImageTeller {
-        platform: &options.platform,
-    };
-    let source = &options.source;
-    let packing = Packing::KeptNames;
-    tell_by(
-        alloc, keys, rt, files, source, packing, &teller, input, output, errors,
+        alloc,
+        keys,
+        rt,
+        files,
+        source,
+        Packing::KeptNames,
+        teller,
+        input,
+        output,
+        errors,
     )
 }
 
@@ -377,30 +386,28 @@ pub(crate) fn check_bundle<
     requires reads { R.failures input.old < u64.MAX }
     requires writes { W.failures output.old < u64.MAX }
     requires says { S.failures errors.old < u64.MAX }
-    ensures calls { CallsOnEach options.now.source KeptNames
-        (CheckEnds (any_image options.now.images false) (file_shown options.now.source.choice) (form_by options.now.json))
-        (CheckEnds (any_image options.now.images true) (file_shown options.now.source.choice) (form_by options.now.json))
+    ensures calls { CallsOn options.now.source KeptNames (CheckEnds (file_shown options.now.source.choice) (form_by options.now.json))
         (streams (devices (R.remaining input.old) (R.failures input.old) (W.contents output.old) (W.failures output.old)) (stream (S.contents errors.old) (S.failures errors.old)))
         (streams (devices (R.remaining input.new) (R.failures input.new) (W.contents output.new) (W.failures output.new)) (stream (S.contents errors.new) (S.failures errors.new)))
         result }
     ensures taken { LosesBeginning (most_bundle_bytes + 1) (R.remaining input.old) (R.remaining input.new) }
 {
     let source = &options.source;
-    let file = file_shown(&source.choice);
-    let form = form_by(options.json);
     let teller = FaultTeller {
-        file,
-        form,
-        any_image: any_image(options.images, false),
+        file: file_shown(&source.choice),
+        form: form_by(options.json),
     };
-    let of_folder = FaultTeller {
-        file,
-        form,
-        any_image: any_image(options.images, true),
-    };
-    let packing = Packing::KeptNames;
-    tell_each(
-        alloc, keys, rt, files, source, packing, &teller, &of_folder, input, output, errors,
+    tell_by(
+        alloc,
+        keys,
+        rt,
+        files,
+        source,
+        Packing::KeptNames,
+        &teller,
+        input,
+        output,
+        errors,
     )
 }
 
@@ -496,41 +503,6 @@ fn tell_by<
         result }
     ensures taken { LosesBeginning (most_bundle_bytes + 1) (R.remaining input.old) (R.remaining input.new) }
 {
-    tell_each(
-        alloc, keys, rt, files, source, packing, teller, teller, input, output, errors,
-    )
-}
-
-/// Prints what a teller tells of a bundle; of that of a folder what another one tells.
-fn tell_each<
-    T: Teller,
-    F: Files + AllocGlobal + Clone + Drop,
-    R: CountedRead,
-    W: CountedWrite,
-    S: CountedWrite,
->(
-    alloc: Global,
-    keys: RandomState,
-    rt: &(impl Threads + Sync),
-    files: &F,
-    source: &Source,
-    packing: Packing,
-    teller: &T,
-    of_folder: &T,
-    input: &mut R,
-    output: &mut W,
-    errors: &mut S,
-) -> u8
-    requires reads { R.failures input.old < u64.MAX }
-    requires writes { W.failures output.old < u64.MAX }
-    requires says { S.failures errors.old < u64.MAX }
-    ensures calls { CallsOnEach source.now packing
-        (TellingEnds (T.tells teller.now) (T.stops teller.now)) (TellingEnds (T.tells of_folder.now) (T.stops of_folder.now))
-        (streams (devices (R.remaining input.old) (R.failures input.old) (W.contents output.old) (W.failures output.old)) (stream (S.contents errors.old) (S.failures errors.old)))
-        (streams (devices (R.remaining input.new) (R.failures input.new) (W.contents output.new) (W.failures output.new)) (stream (S.contents errors.new) (S.failures errors.new)))
-        result }
-    ensures taken { LosesBeginning (most_bundle_bytes + 1) (R.remaining input.old) (R.remaining input.new) }
-{
     match open_input(alloc, keys, files, source, packing, errors) {
         Ok(Input::Given) => {
             let ended = tell_bundle(alloc, keys, rt, teller, input, output);
@@ -543,7 +515,7 @@ fn tell_each<
         }
         Ok(Input::Folder(folder)) => {
             let mut reader = TextReader::new(folder.text.as_str());
-            let ended = tell_bundle(alloc, keys, rt, of_folder, &mut reader, output);
+            let ended = tell_bundle(alloc, keys, rt, teller, &mut reader, output);
             finish_folder(alloc, errors, ended, folder.notes.as_str())
         }
         Err(status) => status,

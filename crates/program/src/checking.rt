@@ -3,7 +3,6 @@ ghost use Rattle.std.specs.Prelude.{IfOk};
 ghost use Rattle.program.specs.Check.{TellsFaults};
 
 use crate::fault::TellFault;
-use crate::noting::noted;
 use crate::telling::Teller;
 use crate::told::Told;
 use build::Status;
@@ -15,26 +14,23 @@ use std::thread::Threads;
 
 /// Tells all faults of a bundle in a form.
 ///
-/// `Built` if there is none, and then nothing is written, `Failed` if there is one, and never `Refused`: what a build refuses is such a fault. Images
-/// for which stubs stand are noted.
+/// `Built` if there is none, and then nothing is written, `Failed` if there is one, and never `Refused`: what a build refuses is such a fault.
 #[derive(Drop)]
 pub(crate) struct FaultTeller<'a> {
     /// What positions call the Dockerfile.
     pub(crate) file: &'a str,
     pub(crate) form: Form,
-    /// Whether stubs stand for images that aren't given.
-    pub(crate) any_image: bool,
 }
 
 impl<'a> Teller for FaultTeller<'a> {
     ghost use Rattle.program.specs.Telling.{never};
     ghost use Rattle.program.specs.PrivateMoved.{check_moves, never_moves};
 
-    ghost tells = { λ teller. TellsFaults teller.any_image teller.file.now teller.form };
+    ghost tells = { λ teller. TellsFaults teller.file.now teller.form };
 
     ghost stops = { λ teller. never };
 
-    ghost moves = { λ teller. check_moves teller.any_image teller.file.now teller.form };
+    ghost moves = { λ teller. check_moves teller.file.now teller.form };
 
     ghost moves_stops = { λ teller. never_moves };
 
@@ -45,7 +41,7 @@ impl<'a> Teller for FaultTeller<'a> {
         rt: &H,
         bundle: &[u8],
     ) -> Result<Told, TellFault> {
-        Ok(tell_faults(alloc, keys, rt, self, bundle)?)
+        Ok(tell_faults(alloc, keys, rt, self.file, bundle, self.form)?)
     }
 }
 
@@ -54,30 +50,22 @@ fn tell_faults(
     alloc: Global,
     keys: RandomState,
     rt: &(impl Threads + Sync),
-    teller: &FaultTeller<'_>,
+    file: &str,
     bundle: &[u8],
+    form: Form,
 ) -> Result<Told, Memory>
-    ensures { IfOk result (λ told. TellsFaults teller.now.any_image teller.now.file.now teller.now.form bundle.now told.status told.text told.note) }
+    ensures { IfOk result (λ told. TellsFaults file.now form bundle.now told.status told.text) }
 {
-    let Checked {
-        text,
-        is_sound,
-        note,
-    } = check(
-        alloc,
-        keys,
-        rt,
-        teller.file,
-        bundle,
-        teller.form,
-        teller.any_image,
-    )?;
-    let note = noted(alloc, note)?;
+    let Checked { text, is_sound } = check(alloc, keys, rt, file, bundle, form)?;
     let text = Bytes::from_vec(text.into_string(alloc)?.into_bytes());
-    let status = if is_sound {
-        Status::Built
-    } else {
-        Status::Failed
-    };
-    Ok(Told { status, text, note })
+    if is_sound {
+        return Ok(Told {
+            status: Status::Built,
+            text,
+        });
+    }
+    Ok(Told {
+        status: Status::Failed,
+        text,
+    })
 }

@@ -5,40 +5,32 @@ ghost use Rattle.counted.specs.Edges.{line_of};
 ghost use Rattle.serde_json.specs.Written.{compact_text};
 ghost use Rattle.imageconfig.specs.Writing.{config_data};
 ghost use Rattle.answering.specs.declared.status.Status.TheVariants.{Built};
-ghost use Rattle.program.specs.Config.{TellsConfig, TellsConfigFor};
-ghost use Rattle.program.specs.Noting.{IsConfigNoted};
+ghost use Rattle.program.specs.Config.{TellsConfig};
 
-use crate::engine::tell_engine;
 use crate::fault::TellFault;
-use crate::noting::config_images_noted;
 use crate::telling::Teller;
 use crate::told::{Told, tell_refusal};
 use build::{Status, ask};
-use command::ConfigOptions;
 use imageconfig::Config;
 use plain::{Bytes, Fault, Memory};
 use std::alloc::Global;
 use std::hash::RandomState;
 use std::thread::Threads;
 
-/// Tells the configuration of a bundle's target as a line of JSON, as an engine is given it if it is for one; or the bundle's refusal.
+/// Tells the configuration of a bundle's target as a line of JSON, or the bundle's refusal.
 ///
-/// Images for which stubs stand are noted, with what they may change. `Built` if the configuration was written, also if a build would fail, `Refused`
-/// if the refusal was, and never `Failed`.
-#[derive(Drop)]
-pub(crate) struct ConfigTeller<'a> {
-    pub(crate) options: &'a ConfigOptions,
-}
+/// `Built` if the configuration was written, also if a build would fail, `Refused` if the refusal was, and never `Failed`.
+pub(crate) struct ConfigTeller;
 
-impl<'a> Teller for ConfigTeller<'a> {
+impl Teller for ConfigTeller {
     ghost use Rattle.program.specs.Telling.{never};
-    ghost use Rattle.program.specs.PrivateMoved.{config_for_moves, never_moves};
+    ghost use Rattle.program.specs.PrivateMoved.{config_moves, never_moves};
 
-    ghost tells = { λ teller. TellsConfigFor teller.options.now.engine teller.options.now.any_image };
+    ghost tells = { λ teller. TellsConfig };
 
     ghost stops = { λ teller. never };
 
-    ghost moves = { λ teller. config_for_moves teller.options.now.engine teller.options.now.any_image };
+    ghost moves = { λ teller. config_moves };
 
     ghost moves_stops = { λ teller. never_moves };
 
@@ -49,23 +41,7 @@ impl<'a> Teller for ConfigTeller<'a> {
         rt: &H,
         bundle: &[u8],
     ) -> Result<Told, TellFault> {
-        Ok(tell_asked(alloc, keys, rt, bundle, self.options)?)
-    }
-}
-
-/// The configuration of what a bundle's bytes ask for, for an engine if it is for one; or their refusal.
-fn tell_asked(
-    alloc: Global,
-    keys: RandomState,
-    rt: &(impl Threads + Sync),
-    bundle: &[u8],
-    options: &ConfigOptions,
-) -> Result<Told, Memory>
-    ensures { IfOk result (λ told. TellsConfigFor options.now.engine options.now.any_image bundle.now told.status told.text told.note) }
-{
-    match &options.engine {
-        Some(engine) => tell_engine(alloc, keys, rt, bundle, options.any_image, engine),
-        None => tell_config(alloc, keys, rt, bundle, options.any_image),
+        Ok(tell_config(alloc, keys, rt, bundle)?)
     }
 }
 
@@ -75,54 +51,31 @@ fn tell_config(
     keys: RandomState,
     rt: &(impl Threads + Sync),
     bundle: &[u8],
-    any_image: bool,
 ) -> Result<Told, Memory>
-    ensures { IfOk result (λ told. TellsConfig any_image bundle.now told.status told.text told.note) }
+    ensures { IfOk result (λ told. TellsConfig bundle.now told.status told.text) }
 {
-    match ask(alloc, keys, rt, bundle, any_image) {
+    match ask(alloc, keys, rt, bundle) {
         Ok(asked) => {
-            let text = config_line(alloc, &asked.evaluated.config);
+            let told = tell_value(alloc, &asked.evaluated.config);
             drop(asked);
-            tell_line(alloc, keys, rt, bundle, any_image, text?)
+            told
         }
         Err(Fault::Because(refusal)) => tell_refusal(alloc, refusal),
         Err(Fault::Memory) => Err(Memory),
     }
 }
 
-/// The line of a bundle's configuration, with what is noted of it.
-pub(crate) fn tell_line(
-    alloc: Global,
-    keys: RandomState,
-    rt: &(impl Threads + Sync),
-    bundle: &[u8],
-    any_image: bool,
-    text: Bytes,
-) -> Result<Told, Memory>
-    ensures status { IfOk result (λ told. told.status ≡ Built) }
-    ensures text { IfOk result (λ told. told.text ≡ text) }
-    ensures note { IfOk result (λ told. IsConfigNoted any_image bundle.now told.note) }
-{
-    match config_images_noted(alloc, keys, rt, bundle, any_image) {
-        Ok(note) => Ok(Told {
-            status: Status::Built,
-            text,
-            note,
-        }),
-        Err(memory) => {
-            drop(text);
-            Err(memory)
-        }
-    }
-}
-
 /// A configuration as a line of JSON.
-fn config_line(alloc: Global, config: &Config) -> Result<Bytes, Memory>
-    ensures { IfOk result (λ text. text ≡ line_of (compact_text (config_data config.now))) }
+fn tell_value(alloc: Global, config: &Config) -> Result<Told, Memory>
+    ensures status { IfOk result (λ told. told.status ≡ Built) }
+    ensures text { IfOk result (λ told. told.text ≡ line_of (compact_text (config_data config.now))) }
 {
     let mut line = config_text(alloc, config)?;
     line.push('\n')?;
-    Ok(Bytes::from_vec(line.into_bytes()))
+    Ok(Told {
+        status: Status::Built,
+        text: Bytes::from_vec(line.into_bytes()),
+    })
 }
 
 /// A configuration as compact JSON.

@@ -2,54 +2,29 @@
 ghost use Rattle.std.specs.Prelude.{◌≡◌, ◌<◌, ◌++◌, ℕ, List, Err, IfOk};
 ghost use Rattle.counted.specs.Edges.{line_of};
 ghost use Rattle.answering.specs.Faults.{exit_status};
-ghost use Rattle.program.specs.Faults.{fault_text, status_in};
+ghost use Rattle.program.specs.Faults.{fault_text};
 ghost use Rattle.program.specs.declared.fault.TellFault.TheVariants.{Device};
-ghost use Rattle.program.specs.Runs.{IsTold, SaysAfter, SaysEnd, SaysFileEnd, SaysNamed, SaysPack, SaysText, end_text};
+ghost use Rattle.program.specs.Runs.{IsTold, SaysAfterNotes, SaysEnd, SaysFileEnd, SaysNamed, SaysPack, end_text};
 ghost use Rattle.program.specs.Saying.{stream};
 
 use crate::fault::TellFault;
 use crate::saying::{NO_MEMORY_LINE, say, say_because};
-use crate::told::Ending;
 use build::{Status, status_code};
 use counted::CountedWrite;
 use packing::PackFault;
 use plain::Text;
 use std::alloc::{AllocError, Global};
 
-/// Says the note of an answer, if it has one, or why there is no whole answer, and gives the status to end with.
-pub(crate) fn finish<S: CountedWrite>(errors: &mut S, ended: Result<Ending, TellFault>) -> u8
+/// Says why there is no whole answer, where there is none, and gives the status to end with.
+pub(crate) fn finish<S: CountedWrite>(errors: &mut S, ended: Result<Status, TellFault>) -> u8
     requires says { S.failures errors.old < u64.MAX }
     ensures says { SaysEnd ended (stream (S.contents errors.old) (S.failures errors.old)) (stream (S.contents errors.new) (S.failures errors.new)) }
-    ensures is { result ≡ exit_status (status_in ended) }
+    ensures is { result ≡ exit_status ended }
 {
-    say_text(errors, end_line(&ended));
-    code_of(ended)
-}
-
-/// Says a text, if it isn't empty.
-fn say_text<S: CountedWrite>(errors: &mut S, text: &str)
-    requires says { S.failures errors.old < u64.MAX }
-    ensures { SaysText text.now (stream (S.contents errors.old) (S.failures errors.old)) (stream (S.contents errors.new) (S.failures errors.new)) }
-{
-    if !text.is_empty() {
-        say(errors, text);
+    if let Err(fault) = &ended {
+        say(errors, fault_line(*fault));
     }
-}
-
-/// The status to end with.
-fn code_of(ended: Result<Ending, TellFault>) -> u8
-    ensures { result ≡ exit_status (status_in ended) }
-{
-    match ended {
-        Ok(Ending { status, note: _ }) => {
-            let known: Result<Status, TellFault> = Ok(status);
-            status_code(known)
-        }
-        Err(fault) => {
-            let known: Result<Status, TellFault> = Err(fault);
-            status_code(known)
-        }
-    }
+    status_code(ended)
 }
 
 /// Says that a device failed: the system gave no keys of a hash, so nothing was read. Gives the status to end with.
@@ -65,18 +40,18 @@ pub fn end_without_keys<S: CountedWrite>(errors: &mut S) -> u8
 pub(crate) fn finish_file<S: CountedWrite>(
     alloc: Global,
     errors: &mut S,
-    ended: Result<Ending, TellFault>,
+    ended: Result<Status, TellFault>,
     name: &str,
     why: &str,
 ) -> u8
     requires says { S.failures errors.old < u64.MAX }
     ensures says { SaysFileEnd name.now ended (stream (S.contents errors.old) (S.failures errors.old)) (stream (S.contents errors.new) (S.failures errors.new)) }
-    ensures is { result ≡ exit_status (status_in ended) }
+    ensures is { result ≡ exit_status ended }
 {
     match &ended {
         Err(TellFault::Device) => {
             say_named(alloc, errors, name, why);
-            code_of(ended)
+            status_code(ended)
         }
         _ => finish(errors, ended),
     }
@@ -86,35 +61,35 @@ pub(crate) fn finish_file<S: CountedWrite>(
 pub(crate) fn finish_folder<S: CountedWrite>(
     alloc: Global,
     errors: &mut S,
-    ended: Result<Ending, TellFault>,
+    ended: Result<Status, TellFault>,
     notes: &str,
 ) -> u8
     requires says { S.failures errors.old < u64.MAX }
-    ensures says { SaysAfter notes.now (end_text ended) (stream (S.contents errors.old) (S.failures errors.old)) (stream (S.contents errors.new) (S.failures errors.new)) }
-    ensures is { result ≡ exit_status (status_in ended) }
+    ensures says { SaysAfterNotes (end_text ended) (stream (S.contents errors.old) (S.failures errors.old)) (stream (S.contents errors.new) (S.failures errors.new)) }
+    ensures is { result ≡ exit_status ended }
 {
     say_after(alloc, errors, notes, end_line(&ended));
-    code_of(ended)
+    status_code(ended)
 }
 
-/// The note of an answer, or why there is no whole answer, as a line; nothing where there is an answer without a note.
-fn end_line(ended: &Result<Ending, TellFault>) -> &str
+/// Why there is no whole answer, as a line; nothing where there is one.
+fn end_line(ended: &Result<Status, TellFault>) -> &'static str
     ensures { result.now ≡ end_text ended.now }
 {
     match ended {
-        Ok(ending) => ending.note.as_str(),
+        Ok(_) => "",
         Err(fault) => fault_line(*fault),
     }
 }
 
-/// Says a line after some notes, or the line alone if there is no memory to say both.
+/// Says a line after some notes, if there is memory to say both.
 fn say_after<S: CountedWrite>(alloc: Global, errors: &mut S, notes: &str, line: &str)
     requires says { S.failures errors.old < u64.MAX }
-    ensures { SaysAfter notes.now line.now (stream (S.contents errors.old) (S.failures errors.old)) (stream (S.contents errors.new) (S.failures errors.new)) }
+    ensures { SaysAfterNotes line.now (stream (S.contents errors.old) (S.failures errors.old)) (stream (S.contents errors.new) (S.failures errors.new)) }
 {
     match joined(alloc, notes, line) {
-        Ok(text) => say_text(errors, text.as_str()),
-        Err(AllocError) => say_text(errors, line),
+        Ok(text) => say(errors, text.as_str()),
+        Err(AllocError) => say(errors, line),
     }
 }
 

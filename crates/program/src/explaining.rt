@@ -7,11 +7,12 @@ ghost use Rattle.plain.specs.Limits.{most_bundle_bytes};
 ghost use Rattle.build.specs.Ends.{devices};
 ghost use Rattle.explains.specs.Explained.{Explains};
 ghost use Rattle.program.specs.Explain.{ExplainEnds};
-ghost use Rattle.program.specs.Telling.{never, quietly};
+ghost use Rattle.program.specs.Telling.{never};
 ghost use Rattle.program.specs.PrivateTelling.{IsToldBy};
 
 use crate::fault::TellFault;
-use crate::told::{Ending, Told};
+use crate::told::Told;
+use build::Status;
 use counted::{CountedRead, CountedWrite, read_all, write_all};
 use executor::Executor;
 use explains::{Explained, explain};
@@ -39,7 +40,7 @@ pub(crate) fn explain_bundle<R: CountedRead, W: CountedWrite, E: Executor>(
     input: &mut R,
     output: &mut W,
     executor: &E,
-) -> Result<Ending, TellFault>
+) -> Result<Status, TellFault>
     requires reads { R.failures input.old < u64.MAX }
     requires writes { W.failures output.old < u64.MAX }
     ensures ends { ExplainEnds file.now (E.out executor.now)
@@ -70,7 +71,7 @@ fn explain_within<R: CountedRead, W: CountedWrite, E: Executor>(
     input: &mut R,
     output: &mut W,
     executor: &E,
-) -> Result<Ending, TellFault>
+) -> Result<Status, TellFault>
     requires limit { most ≡ most_bundle_bytes }
     requires room { most < usize.MAX }
     requires reads { R.failures input.old < u64.MAX }
@@ -84,9 +85,8 @@ fn explain_within<R: CountedRead, W: CountedWrite, E: Executor>(
     let bytes = read_all(alloc, input, most + 1)?;
     match tell_build(alloc, keys, rt, file, bytes.as_slice(), executor) {
         Ok(told) => {
-            let Told { status, text, note } = told;
-            write_all(output, text.as_slice())?;
-            Ok(Ending { status, note })
+            write_all(output, told.text.as_slice())?;
+            Ok(told.status)
         }
         Err(fault) => Err(fault),
     }
@@ -101,7 +101,7 @@ fn tell_build<E: Executor>(
     bundle: &[u8],
     executor: &E,
 ) -> Result<Told, TellFault>
-    ensures { IsToldBy (quietly (Explains file.now (E.out executor.now))) never bundle.now result }
+    ensures { IsToldBy (Explains file.now (E.out executor.now)) never bundle.now result }
 {
     Ok(tell_explained(alloc, keys, rt, file, bundle, executor)?)
 }
@@ -115,9 +115,11 @@ fn tell_explained<E: Executor>(
     bundle: &[u8],
     executor: &E,
 ) -> Result<Told, Memory>
-    ensures { IfOk result (λ told. quietly (Explains file.now (E.out executor.now)) bundle.now told.status told.text told.note) }
+    ensures { IfOk result (λ told. Explains file.now (E.out executor.now) bundle.now told.status told.text) }
 {
     let Explained { status, text } = explain(alloc, keys, rt, file, bundle, executor, WORKERS)?;
-    let text = Bytes::from_vec(text.into_string(alloc)?.into_bytes());
-    Ok(Told::quiet(alloc, status, text))
+    Ok(Told {
+        status,
+        text: Bytes::from_vec(text.into_string(alloc)?.into_bytes()),
+    })
 }

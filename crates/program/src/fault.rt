@@ -2,28 +2,21 @@
 ghost use Rattle.std.specs.Prelude.{◌≡◌};
 ghost use Rattle.program.specs.Faults.{as_told};
 
-use crate::told::{Ending, no_note};
 use build::{BuildFault, Status};
 use counted::{Device, EdgeFault};
 use plain::{Fault, Memory};
-use std::alloc::Global;
-use thiserror::Error;
 
 /// Why what is told of a bundle wasn't written whole.
-#[derive(Clone, Copy, Debug, PartialEq, Eq, Error)]
+#[derive(Clone, Copy, Debug, PartialEq, Eq)]
 pub(crate) enum TellFault {
     /// There was no memory. Nothing was written.
-    #[error("out of memory")]
     Memory,
     /// A read or a write failed. Nothing was written, or a beginning of what is told.
-    #[error("device failed")]
     Device,
     /// Two different operations of a graph have the same address, or the same digest, so it has no definition. Nothing was written.
-    #[error("address clash")]
     Clash,
     /// BuildKit can't be told which files of the context are left out: the path of one has control characters, or others beyond ASCII. Nothing was
     /// written. Only what writes a definition for BuildKit tells it.
-    #[error("a path that the ignore file leaves out isn't printable ASCII")]
     Unspeakable,
 }
 
@@ -67,15 +60,12 @@ impl From<Memory> for TellFault {
     }
 }
 
-/// How a build ended, as what is told of a bundle ends.
-pub(crate) fn as_told(alloc: Global, ended: Result<Status, BuildFault>) -> Result<Ending, TellFault>
+/// How a build or the drawing of a graph ended, as what is told of a bundle ends.
+pub(crate) fn as_told(ended: Result<Status, BuildFault>) -> Result<Status, TellFault>
     ensures { result ≡ as_told ended }
 {
     match ended {
-        Ok(status) => Ok(Ending {
-            status,
-            note: no_note(alloc),
-        }),
+        Ok(status) => Ok(status),
         Err(fault) => Err(TellFault::from(fault)),
     }
 }

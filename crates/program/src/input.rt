@@ -2,14 +2,13 @@
 ghost use Rattle.std.specs.Prelude.{◌≡◌, ◌<◌, ◌≤◌, Some, IfOk, IfErr, codes, length, option_map};
 ghost use Rattle.packing.specs.Asked.{asked_of};
 ghost use Rattle.plain.specs.Limits.{most_bundle_bytes};
-ghost use Rattle.program.specs.Runs.{HasNoBundle, IsOpenFault, IsShut, IsUnopened, SaysSome, TellsPassed, asked_for, asked_with};
+ghost use Rattle.program.specs.Runs.{HasNoBundle, IsOpenFault, IsShut, IsUnopened, SaysSome, asked_for, asked_with};
 ghost use Rattle.program.specs.PrivateInput.{IsNoFile, IsNotOpened, IsOfFile, IsOpened, IsTextOf, failures_of, left_of};
 ghost use Rattle.program.specs.Saying.{stream};
 
 use crate::ending::{finish_file, finish_pack};
 use crate::fault::TellFault;
 use crate::saying::say_because;
-use crate::told::{Ending, no_note};
 use build::Status;
 use command::{Choice, Source};
 use counted::{CountedRead, CountedWrite};
@@ -209,7 +208,7 @@ fn finish_unopened<S: CountedWrite>(
     requires says { S.failures errors.old < u64.MAX }
     ensures { IsUnopened name.now (stream (S.contents errors.old) (S.failures errors.old)) (stream (S.contents errors.new) (S.failures errors.new)) result }
 {
-    let ended: Result<Ending, TellFault> = Err(open_fault(error));
+    let ended = Err(open_fault(error));
     finish_file(alloc, errors, ended, name, why_of(error.kind()))
 }
 
@@ -236,30 +235,22 @@ fn open_folder<F: Files + AllocGlobal + Clone + Drop, S: CountedWrite>(
     errors: &mut S,
 ) -> Result<FolderText, u8>
     requires says { S.failures errors.old < u64.MAX }
-    ensures packed { IfOk result (λ folder. IsTextOf choice.now packing folder.text folder.notes) }
+    ensures packed { IfOk result (λ folder. IsTextOf choice.now packing folder.text) }
     ensures quiet { IfOk result (λ _. stream (S.contents errors.new) (S.failures errors.new) ≡ stream (S.contents errors.old) (S.failures errors.old)) }
     ensures count { IfOk result (λ _. S.failures errors.new ≡ S.failures errors.old) }
     ensures none { IfErr result (λ status. HasNoBundle (asked_for choice.now packing)
         (stream (S.contents errors.old) (S.failures errors.old)) (stream (S.contents errors.new) (S.failures errors.new)) status) }
 {
-    let mut notes = no_note(alloc);
+    let mut notes = Text::from_string(String::new(alloc));
     let options = folder_options(choice, packing);
     match packed_text(alloc, keys, files, name, options, &mut notes) {
         Ok(Some(text)) => {
-            let notes = passed_over(alloc, options.pass, notes);
             let folder = FolderText { text, notes };
             fitting(alloc, errors, name, folder, MOST_BUNDLE_BYTES)
         }
         Ok(None) => Err(finish_pack(alloc, errors, Ok(Status::Refused), notes.as_str())),
         Err(fault) => Err(finish_pack(alloc, errors, Err(fault), notes.as_str())),
     }
-}
-
-/// What was passed over in a folder, of which it is noted. Where nothing may be, nothing was, and nothing is noted; no contract of `packing` says so.
-fn passed_over(alloc: Global, may_be: bool, notes: Text) -> Text
-    ensures { TellsPassed may_be result }
-{
-    if may_be { notes } else { no_note(alloc) }
 }
 
 /// A folder's text, if it is no larger than a bundle may be; the limit is a value and no number that is written out.
@@ -272,8 +263,7 @@ fn fitting<S: CountedWrite>(
 ) -> Result<FolderText, u8>
     requires limit { most ≡ most_bundle_bytes }
     requires says { S.failures errors.old < u64.MAX }
-    ensures is { IfOk result (λ fits. (fits.text ≡ folder.text) × (fits.notes ≡ folder.notes)) }
-    ensures short { IfOk result (λ fits. length fits.text ≤ most_bundle_bytes) }
+    ensures short { IfOk result (λ fits. (fits.text ≡ folder.text) × (length fits.text ≤ most_bundle_bytes)) }
     ensures quiet { IfOk result (λ _. stream (S.contents errors.new) (S.failures errors.new) ≡ stream (S.contents errors.old) (S.failures errors.old)) }
     ensures count { IfOk result (λ _. S.failures errors.new ≡ S.failures errors.old) }
     ensures large { IfErr result (λ status. (most_bundle_bytes < length folder.text) × SaysSome (codes "cannot pack")

@@ -11,22 +11,16 @@
 // ```
 #![tactic(auto)]
 
-mod addressing;
 mod arguments;
 mod bundles;
 mod checking;
-mod choosing;
 mod config;
-mod descending;
 mod ending;
-mod engine;
 mod explaining;
 mod exporting;
 mod fault;
 mod input;
 pub mod laws;
-mod listing;
-mod noting;
 mod picturing;
 mod running;
 mod saying;

@@ -4,11 +4,9 @@ ghost use Rattle.build.specs.Lowerable.{IsLowerable};
 ghost use Rattle.answering.specs.declared.status.Status.TheVariants.{Built};
 ghost use Rattle.dot.specs.Drawn.{drawing};
 ghost use Rattle.program.specs.Dot.{IsPictureOf, TellsDot};
-ghost use Rattle.program.specs.Noting.{IsNoted};
 
 use crate::exporting::drawn_plan;
 use crate::fault::TellFault;
-use crate::noting::images_noted;
 use crate::telling::Teller;
 use crate::told::{Told, tell_refusal};
 use build::{Asked, Status, Titled, ask_titled};
@@ -23,23 +21,19 @@ use std::thread::Threads;
 
 /// Tells a bundle's graph in the DOT language, or the bundle's refusal.
 ///
-/// The graph is the one that `graph` prints, and each of its steps has the title of its instruction. Images for which stubs stand are noted. `Built` if
-/// it was written, also if a build would fail, `Refused` if the refusal was, and never `Failed`.
-#[derive(Drop)]
-pub(crate) struct PictureTeller {
-    /// Whether stubs stand for images that aren't given.
-    pub(crate) any_image: bool,
-}
+/// The graph is the one that `graph` prints, and each of its steps has the title of its instruction. `Built` if it was written, also if a
+/// build would fail, `Refused` if the refusal was, and never `Failed`.
+pub(crate) struct PictureTeller;
 
 impl Teller for PictureTeller {
     ghost use Rattle.program.specs.Telling.{never};
     ghost use Rattle.program.specs.PrivateMoved.{dot_moves, never_moves};
 
-    ghost tells = { λ teller. TellsDot teller.any_image };
+    ghost tells = { λ teller. TellsDot };
 
     ghost stops = { λ teller. never };
 
-    ghost moves = { λ teller. dot_moves teller.any_image };
+    ghost moves = { λ teller. dot_moves };
 
     ghost moves_stops = { λ teller. never_moves };
 
@@ -50,7 +44,7 @@ impl Teller for PictureTeller {
         rt: &H,
         bundle: &[u8],
     ) -> Result<Told, TellFault> {
-        Ok(tell_dot(alloc, keys, rt, bundle, self.any_image)?)
+        Ok(tell_dot(alloc, keys, rt, bundle)?)
     }
 }
 
@@ -60,15 +54,14 @@ fn tell_dot(
     keys: RandomState,
     rt: &(impl Threads + Sync),
     bundle: &[u8],
-    any_image: bool,
 ) -> Result<Told, Memory>
-    ensures { IfOk result (λ told. TellsDot any_image bundle.now told.status told.text told.note) }
+    ensures { IfOk result (λ told. TellsDot bundle.now told.status told.text) }
 {
-    match ask_titled(alloc, keys, rt, bundle, any_image) {
+    match ask_titled(alloc, keys, rt, bundle) {
         Ok(titled) => {
             let Titled {
                 asked,
-                shown,
+                titles,
                 left_out: _,
                 digests: _,
             } = titled;
@@ -76,9 +69,7 @@ fn tell_dot(
                 evaluated,
                 caches: _,
             } = asked;
-            let text = picture(alloc, evaluated, shown.titles.as_slice());
-            drop(shown);
-            tell_noted(alloc, keys, rt, bundle, any_image, text?)
+            tell_picture(alloc, evaluated, titles.as_slice())
         }
         Err(Fault::Because(refusal)) => tell_refusal(alloc, refusal),
         Err(Fault::Memory) => Err(Memory),
@@ -86,39 +77,24 @@ fn tell_dot(
 }
 
 /// The graph of a file's needed stages, whose lines have these titles.
-fn picture(alloc: Global, evaluated: Evaluated, titles: &[Option<Text>]) -> Result<Bytes, Memory>
+fn tell_picture(
+    alloc: Global,
+    evaluated: Evaluated,
+    titles: &[Option<Text>],
+) -> Result<Told, Memory>
     requires { IsLowerable evaluated }
-    ensures { IfOk result (IsPictureOf evaluated titles.now) }
+    ensures status { IfOk result (λ told. told.status ≡ Built) }
+    ensures text { IfOk result (λ told. IsPictureOf evaluated titles.now told.text) }
 {
     let plan = drawn_plan(alloc, evaluated)?;
-    let text = tell_plan(alloc, &plan, titles);
+    let told = tell_plan(alloc, &plan, titles);
     drop(plan);
-    text
-}
-
-/// The text of a bundle's graph, with what is noted of its images.
-pub(crate) fn tell_noted(
-    alloc: Global,
-    keys: RandomState,
-    rt: &(impl Threads + Sync),
-    bundle: &[u8],
-    any_image: bool,
-    text: Bytes,
-) -> Result<Told, Memory>
-    ensures status { IfOk result (λ told. told.status ≡ Built) }
-    ensures text { IfOk result (λ told. told.text ≡ text) }
-    ensures note { IfOk result (λ told. IsNoted any_image bundle.now told.note) }
-{
-    match images_noted(alloc, keys, rt, bundle, any_image) {
-        Ok(note) => Ok(Told {
+    match told {
+        Ok(text) => Ok(Told {
             status: Status::Built,
             text,
-            note,
         }),
-        Err(memory) => {
-            drop(text);
-            Err(memory)
-        }
+        Err(memory) => Err(memory),
     }
 }
 

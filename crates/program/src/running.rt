@@ -11,7 +11,7 @@ ghost use Rattle.program.specs.Saying.{stream};
 
 use crate::bundles::{
     build_bundle, check_bundle, draw_bundle, explain_build, explain_paths, export_bundle,
-    list_bundle, tell_config,
+    tell_config,
 };
 use crate::ending::finish_pack;
 use crate::input::options_of;
@@ -111,14 +111,9 @@ pub fn run_program<
             drop(options);
             status
         }
-        Ok(Task::Config(options)) => {
-            let status = tell_config(alloc, keys, rt, files, &options, input, output, errors);
-            drop(options);
-            status
-        }
-        Ok(Task::Images(options)) => {
-            let status = list_bundle(alloc, keys, rt, files, &options, input, output, errors);
-            drop(options);
+        Ok(Task::Config(source)) => {
+            let status = tell_config(alloc, keys, rt, files, &source, input, output, errors);
+            drop(source);
             status
         }
         Ok(Task::Check(options)) => {

@@ -6,7 +6,8 @@ ghost use Rattle.build.specs.Ends.{devices};
 ghost use Rattle.program.specs.Telling.{TellingEnds};
 
 use crate::fault::TellFault;
-use crate::told::{Ending, Told};
+use crate::told::Told;
+use build::Status;
 use counted::{CountedRead, CountedWrite, read_all, write_all};
 use plain::limits::MOST_BUNDLE_BYTES;
 use std::alloc::Global;
@@ -16,11 +17,12 @@ use std::thread::Threads;
 /// What knows one thing to tell of a bundle, such as its faults.
 pub(crate) trait Teller {
     ghost use Rattle.std.specs.Thread.{IsSync};
-    ghost use Rattle.program.specs.Telling.{Stops, Telling};
+    ghost use Rattle.build.specs.Ends.{Answering};
+    ghost use Rattle.program.specs.Telling.{Stops};
     ghost use Rattle.program.specs.PrivateTelling.{IsToldBy, Moves, MovesStops};
 
-    // What is due of a bundle: a status, the text that is written, and what is noted of it.
-    ghost tells: { Self → Telling };
+    // What is due of a bundle: a status, and the text that is written.
+    ghost tells: { Self → Answering };
 
     // Of which bundles nothing is due, and with which fault that ends.
     ghost stops: { Self → Stops };
@@ -45,8 +47,8 @@ pub(crate) trait Teller {
 
 /// Reads a bundle, and writes what a teller tells of it.
 ///
-/// The status and the note are the teller's. Nothing was written after `Memory`. After `Device` a read failed, and nothing was written, or a write
-/// failed, and a beginning was. After `Clash` and `Unspeakable`, with which a teller says that nothing is due, nothing was written.
+/// The status is the teller's. Nothing was written after `Memory`. After `Device` a read failed, and nothing was written, or a write failed, and a
+/// beginning was. After `Clash` and `Unspeakable`, with which a teller says that nothing is due, nothing was written.
 #[tactic(auto, unfolding(plain::specs::Limits::most_bundle_bytes))]
 pub(crate) fn tell_bundle<T: Teller, R: CountedRead, W: CountedWrite>(
     alloc: Global,
@@ -55,7 +57,7 @@ pub(crate) fn tell_bundle<T: Teller, R: CountedRead, W: CountedWrite>(
     teller: &T,
     input: &mut R,
     output: &mut W,
-) -> Result<Ending, TellFault>
+) -> Result<Status, TellFault>
     requires reads { R.failures input.old < u64.MAX }
     requires writes { W.failures output.old < u64.MAX }
     ensures ends { TellingEnds (T.tells teller.now) (T.stops teller.now)
@@ -76,7 +78,7 @@ fn tell_within<T: Teller, R: CountedRead, W: CountedWrite>(
     teller: &T,
     input: &mut R,
     output: &mut W,
-) -> Result<Ending, TellFault>
+) -> Result<Status, TellFault>
     requires limit { most ≡ most_bundle_bytes }
     requires room { most < usize.MAX }
     requires reads { R.failures input.old < u64.MAX }
@@ -90,9 +92,8 @@ fn tell_within<T: Teller, R: CountedRead, W: CountedWrite>(
     let bytes = read_all(alloc, input, most + 1)?;
     match teller.tell(alloc, keys, rt, bytes.as_slice()) {
         Ok(told) => {
-            let Told { status, text, note } = told;
-            write_all(output, text.as_slice())?;
-            Ok(Ending { status, note })
+            write_all(output, told.text.as_slice())?;
+            Ok(told.status)
         }
         Err(fault) => Err(fault),
     }

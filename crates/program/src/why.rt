@@ -1,6 +1,5 @@
 // Why paths of a bundle's context are kept or left out.
 ghost use Rattle.std.specs.Prelude.{IfOk};
-ghost use Rattle.program.specs.Telling.{quietly};
 ghost use Rattle.program.specs.Why.{TellsWhy};
 
 use crate::fault::TellFault;
@@ -27,7 +26,7 @@ impl<'a> Teller for PathTeller<'a> {
     ghost use Rattle.program.specs.Telling.{never};
     ghost use Rattle.program.specs.PrivateMoved.{why_moves, never_moves};
 
-    ghost tells = { λ teller. quietly (TellsWhy teller.paths.now) };
+    ghost tells = { λ teller. TellsWhy teller.paths.now };
 
     ghost stops = { λ teller. never };
 
@@ -54,10 +53,13 @@ fn tell_paths(
     bundle: &[u8],
     paths: &[Text],
 ) -> Result<Told, Memory>
-    ensures { IfOk result (λ told. quietly (TellsWhy paths.now) bundle.now told.status told.text told.note) }
+    ensures { IfOk result (λ told. TellsWhy paths.now bundle.now told.status told.text) }
 {
     match reasons::<Config>(alloc, keys, rt, bundle, paths) {
-        Ok(text) => Ok(Told::quiet(alloc, Status::Built, text)),
+        Ok(text) => Ok(Told {
+            status: Status::Built,
+            text,
+        }),
         Err(Fault::Because(refusal)) => tell_refusal(alloc, Rejection::of(refusal)),
         Err(Fault::Memory) => Err(Memory),
     }

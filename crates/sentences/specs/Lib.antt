@@ -1,6 +1,5 @@
 pub mod Failing
 pub mod Json
-pub mod Level
 pub mod Message
 pub mod Showing
 pub mod Subject

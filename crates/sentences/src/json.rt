@@ -8,7 +8,7 @@ ghost use Rattle.sentences.specs.Showing.{pointer_of};
 ghost use Rattle.sentences.specs.Subject.{subject_of};
 ghost use Rattle.sentences.specs.Table.{remedy, sentence};
 
-use crate::{Level, Message, Subject, remedy, sentence};
+use crate::{Message, Subject, remedy, sentence};
 use plain::{Code, Memory};
 use serde_json::{Value, json};
 use std::alloc::{AllocError, Global};
@@ -17,27 +17,24 @@ use std::alloc::{AllocError, Global};
 #[tactic(auto, unfolding(crate::specs::Json::refusal_data))]
 fn refusal_value(
     alloc: Global,
-    level: Level,
     code: &str,
     file: &str,
     line: u32,
     message: &Message,
     text: &str,
 ) -> Result<Value, AllocError>
-    ensures { IfOk result (λ v. view v ≡ refusal_data level code.now file.now line message.now text.now) }
+    ensures { IfOk result (λ v. view v ≡ refusal_data code.now file.now line message.now text.now) }
 {
-    let level = level.text();
     let line = u64::from(line);
     let wrong = message.wrong.as_str();
     let helps = message.helps.as_str();
-    json!(in alloc; {"code": code, "file": file, "level": level, "line": line, "message": wrong, "remedy": helps, "text": text})
+    json!(in alloc; {"code": code, "file": file, "line": line, "message": wrong, "remedy": helps, "text": text})
 }
 
 /// The same of a refusal that is about a word of its line, which begins in this column.
 #[tactic(auto, unfolding(crate::specs::Json::pointed_data))]
 fn pointed_value(
     alloc: Global,
-    level: Level,
     column: usize,
     word: &str,
     code: &str,
@@ -46,20 +43,18 @@ fn pointed_value(
     message: &Message,
     text: &str,
 ) -> Result<Value, AllocError>
-    ensures { IfOk result (λ v. view v ≡ pointed_data level (column, word.now) code.now file.now line message.now text.now) }
+    ensures { IfOk result (λ v. view v ≡ pointed_data (column, word.now) code.now file.now line message.now text.now) }
 {
-    let level = level.text();
     let line = u64::from(line);
     let column = column as u64;
     let wrong = message.wrong.as_str();
     let helps = message.helps.as_str();
-    json!(in alloc; {"code": code, "column": column, "file": file, "level": level, "line": line, "message": wrong, "remedy": helps, "text": text, "word": word})
+    json!(in alloc; {"code": code, "column": column, "file": file, "line": line, "message": wrong, "remedy": helps, "text": text, "word": word})
 }
 
 /// A refusal as JSON, by its parts, with the word that it is about, if there is one.
 fn value_with(
     alloc: Global,
-    level: Level,
     pointed: Option<(usize, &str)>,
     code: &str,
     file: &str,
@@ -67,13 +62,11 @@ fn value_with(
     message: &Message,
     text: &str,
 ) -> Result<Value, AllocError>
-    ensures { IfOk result (λ v. view v ≡ data_with level (pointer_of pointed.entry) code.now file.now line message.now text.now) }
+    ensures { IfOk result (λ v. view v ≡ data_with (pointer_of pointed.entry) code.now file.now line message.now text.now) }
 {
     match pointed {
-        None => refusal_value(alloc, level, code, file, line, message, text),
-        Some((column, word)) => pointed_value(
-            alloc, level, column, word, code, file, line, message, text,
-        ),
+        None => refusal_value(alloc, code, file, line, message, text),
+        Some((column, word)) => pointed_value(alloc, column, word, code, file, line, message, text),
     }
 }
 
@@ -88,12 +81,11 @@ fn written_line(alloc: Global, value: Value) -> Result<String, Memory>
     Ok(written)
 }
 
-/// What a program reads of a refusal or a warning by this code of the file of this name, of the line of this number, with what is said of it: one line of
-/// compact JSON, with the LF that ends it. Its keys are `code`, `file`, `level`, `line`, `message`, `remedy` and `text`. If a word of the text is `pointed` at, which is
+/// What a program reads of a refusal by this code of the file of this name, of the line of this number, with what is said of it: one line of compact
+/// JSON, with the LF that ends it. Its keys are `code`, `file`, `line`, `message`, `remedy` and `text`. If a word of the text is `pointed` at, which is
 /// given after its column, there are the keys `column` and `word` too.
 pub fn json_line(
     alloc: Global,
-    level: Level,
     file: &str,
     code: &str,
     number: u32,
@@ -101,9 +93,9 @@ pub fn json_line(
     text: &str,
     pointed: Option<(usize, &str)>,
 ) -> Result<String, Memory>
-    ensures { IfOk result (λ line. string_bytes line ≡ json_line level file.now code.now number message.now text.now (pointer_of pointed.entry)) }
+    ensures { IfOk result (λ line. string_bytes line ≡ json_line file.now code.now number message.now text.now (pointer_of pointed.entry)) }
 {
-    let value = value_with(alloc, level, pointed, code, file, number, message, text)?;
+    let value = value_with(alloc, pointed, code, file, number, message, text)?;
     written_line(alloc, value)
 }
 
@@ -119,7 +111,7 @@ fn place_value(
 ) -> Result<Value, AllocError>
     ensures { IfOk result (λ v. view v ≡ place_data (string_bytes code) file.now message.now place.now helps.now) }
 {
-    json!(in alloc; {"code": code, "file": file, "level": "error", "line": 0u64, "message": message, "place": place, "remedy": helps, "text": ""})
+    json!(in alloc; {"code": code, "file": file, "line": 0u64, "message": message, "place": place, "remedy": helps, "text": ""})
 }
 
 /// The same, with what is said of its code.

@@ -20,7 +20,6 @@
 
 mod failing;
 mod json;
-mod level;
 mod message;
 mod showing;
 mod subject;
@@ -30,7 +29,6 @@ mod word_cause;
 
 pub use failing::{cause_message, left_out_message, missing_message};
 pub use json::{json_line, place_line};
-pub use level::Level;
 pub use message::{Message, code_of, message_of};
 pub use showing::{headed, noted, numbered, placed};
 pub use subject::Subject;

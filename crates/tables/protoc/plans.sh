@@ -1,8 +1,7 @@
 #!/usr/bin/env bash
 # Prints the rows of whole plans. A line of an `.ops` file is a name and the text of an operation, in which `@NAME@` stands for the digest of
-# the operation of that name; the line below it, `said`, has the text of what is said of it, and a line `source` the text of where
-# operations stand. protoc makes the bytes of each operation, sha256sum its digest, and protoc the definition of them all, with its maps in the
-# order of their keys.
+# the operation of that name; the line below it, `said`, has the text of what is said of it. protoc makes the bytes of each operation, sha256sum
+# its digest, and protoc the definition of them all, with its maps in the order of their keys.
 set -eu
 cd "$(dirname "$0")"
 
@@ -17,10 +16,6 @@ plan() {
             definition+="metadata { key: \"$digest\" value { $text } } "
             continue
         fi
-        if [ "$operation" = source ]; then
-            definition+="Source { $(sed -f <(printf '%s' "$digests") <<<"$text") } "
-            continue
-        fi
         hex=$(sed -f <(printf '%s' "$digests") <<<"$text" | encode Op)
         digest=sha256:$(xxd -r -p <<<"$hex" | sha256sum | cut -d' ' -f1)
         digests+="s/@$operation@/$digest/"$'\n'
@@ -31,7 +26,3 @@ plan() {
 
 plan plan 15-plan.ops
 plan empty-plan 16-empty-plan.ops
-plan asked-plan 21-asked-plan.ops
-plan fresh-plan 22-fresh-plan.ops
-plan llb_of_another_context_all_anew 23-another-context.ops
-plan llb_of_a_chain_of_copies 24-chain.ops

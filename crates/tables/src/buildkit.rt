@@ -7,7 +7,6 @@
 // type that isn't that of `ops.proto`, a default that is written, an empty message that isn't, or a map out of order, shows here. Whether `ops.proto`
 // is BuildKit's own schema doesn't.
 
-mod asked;
 mod commands;
 mod files;
 mod vertices;
@@ -44,9 +43,6 @@ enum Row {
     ChainOfTwo,
     ChainOfThree,
     FollowedContext,
-    AskedPlan,
-    FreshPlan,
-    Nothing,
 }
 
 impl Row {
@@ -107,9 +103,6 @@ fn row_of(name: &str) -> Option<Row> {
         "chain-of-two" => Some(Row::ChainOfTwo),
         "chain-of-three" => Some(Row::ChainOfThree),
         "followed-context" => Some(Row::FollowedContext),
-        "asked-plan" => Some(Row::AskedPlan),
-        "fresh-plan" => Some(Row::FreshPlan),
-        "nothing" => Some(Row::Nothing),
         _ => None,
     }
 }
@@ -126,9 +119,6 @@ fn row_bytes(alloc: Global, keys: RandomState, row: Row) -> Result<Bytes, Memory
         Row::ChainOfTwo => bytes(alloc, vertices::chain(alloc, &[A, B])),
         Row::ChainOfThree => bytes(alloc, vertices::chain(alloc, &[B, C, A])),
         Row::FollowedContext => bytes(alloc, whole::followed_context(alloc)),
-        Row::AskedPlan => asked::asked_plan(alloc, keys),
-        Row::FreshPlan => asked::fresh_plan(alloc, keys),
-        Row::Nothing => asked::nothing(alloc, keys),
         row => operation(alloc, row),
     }
 }
@@ -269,12 +259,7 @@ fn merge(alloc: Global) -> Result<OpKind, Memory> {
 fn definition(alloc: Global) -> Result<Bytes, Memory> {
     let ops = ops(alloc)?;
     let metadata = metadata(alloc)?;
-    let definition = Definition {
-        ops,
-        metadata,
-        source: None,
-    };
-    definition.to_bytes(alloc)
+    Definition { ops, metadata }.to_bytes(alloc)
 }
 
 fn ops(alloc: Global) -> Result<Items<Bytes>, Memory> {

@@ -26,7 +26,7 @@ pub fn plan_of_bundle(
     rt: &(impl Threads + Sync),
     bundle: &str,
 ) -> Result<Plan<Config>, Memory> {
-    match ask(alloc, keys, rt, bundle.as_bytes(), false) {
+    match ask(alloc, keys, rt, bundle.as_bytes()) {
         Ok(asked) => {
             let Asked { evaluated, caches } = asked;
             drop(caches);

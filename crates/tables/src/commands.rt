@@ -4,9 +4,8 @@
 use crate::reading::after_name;
 use clap::Error;
 use command::{
-    Anew, BuildOptions, CheckOptions, Choice, CommandSettings, ConfigOptions, EngineOptions,
-    GraphOptions, ImageNeed, ImagesOptions, LlbOptions, MergeName, NetworkName, PackOptions,
-    PlatformName, Proxies, Source, Task, WhyOptions, read_command,
+    BuildOptions, CheckOptions, Choice, GraphOptions, LlbOptions, MergeName, NetworkName,
+    PackOptions, Source, Task, WhyOptions, read_command,
 };
 use plain::{Memory, Text};
 use std::alloc::Global;
@@ -52,14 +51,9 @@ fn task_text(alloc: Global, task: Task) -> Result<String, Memory> {
             drop(options);
             told
         }
-        Task::Config(options) => {
-            let told = config_text(alloc, &options);
-            drop(options);
-            told
-        }
-        Task::Images(options) => {
-            let told = images_text(alloc, &options);
-            drop(options);
+        Task::Config(source) => {
+            let told = config_text(alloc, &source);
+            drop(source);
             told
         }
         Task::Check(options) => {
@@ -93,17 +87,7 @@ fn graph_text(alloc: Global, options: &GraphOptions) -> Result<String, Memory> {
         },
     )?;
     add_source(alloc, &mut told, "of", &options.source)?;
-    told.push_str(need_text(options.images))?;
     Ok(told)
-}
-
-/// Which images have to be given.
-fn need_text(images: ImageNeed) -> &'static str {
-    match images {
-        ImageNeed::Usual => "",
-        ImageNeed::Any => " with any image",
-        ImageNeed::All => " with all images",
-    }
 }
 
 /// What `pack` is asked for: its folder, and after it each option that is given.
@@ -130,13 +114,17 @@ fn why_text(alloc: Global, options: &WhyOptions) -> Result<String, Memory> {
     Ok(told)
 }
 
-/// What `llb` is asked for: its platform, its network, the text that no other build has, and after them whether a merge is copies, whether only what
-/// is named is asked for, what is chosen beside, and what the bundle is taken from.
+/// What `llb` is asked for: the three names of its platform, its network, the text that no other build has, and after them whether a merge is
+/// copies, whether only what is named is asked for, and what the bundle is taken from.
 fn llb_text(alloc: Global, options: &LlbOptions) -> Result<String, Memory> {
-    let platform = platform_text(alloc, &options.platform)?;
-    let network = network_text(options.commands.network);
+    let os = options.platform.os.as_str();
+    let architecture = options.platform.architecture.as_str();
+    let variant = options.platform.variant.as_str();
+    let network = network_text(options.network);
     let unique = options.unique.as_str();
-    let mut told = format!(in alloc; "llb for {platform} with {network} unique [{unique}]")?;
+    let mut told = format!(in alloc;
+        "llb for [{os}] [{architecture}] [{variant}] with {network} unique [{unique}]"
+    )?;
     match options.merging {
         MergeName::Native => {}
         MergeName::Chain => told.push_str(" in chains")?,
@@ -144,68 +132,8 @@ fn llb_text(alloc: Global, options: &LlbOptions) -> Result<String, Memory> {
     if options.follow {
         told.push_str(" following")?;
     }
-    if options.context.as_str() != "context" {
-        told.push_str(format!(in alloc; " context [{}]", options.context.as_str())?.as_str())?;
-    }
-    add_anew(alloc, &mut told, &options.anew)?;
-    add_text(alloc, &mut told, "map", &options.source_map)?;
-    add_settings(alloc, &mut told, &options.commands)?;
     add_source(alloc, &mut told, "of", &options.source)?;
     Ok(told)
-}
-
-/// The three names of a platform.
-fn platform_text(alloc: Global, platform: &PlatformName) -> Result<String, Memory> {
-    let os = platform.os.as_str();
-    let architecture = platform.architecture.as_str();
-    let variant = platform.variant.as_str();
-    Ok(format!(in alloc; "[{os}] [{architecture}] [{variant}]")?)
-}
-
-/// What is done anew: `anew`, or `anew` and each stage.
-fn add_anew(alloc: Global, told: &mut String, anew: &Anew) -> Result<(), Memory> {
-    if anew.everything {
-        told.push_str(" anew")?;
-    }
-    for stage in anew.stages.as_slice() {
-        told.push_str(format!(in alloc; " anew [{}]", stage.as_str())?.as_str())?;
-    }
-    Ok(())
-}
-
-/// What is set of every command beside its network.
-fn add_settings(
-    alloc: Global,
-    told: &mut String,
-    settings: &CommandSettings,
-) -> Result<(), Memory> {
-    for (name, address) in settings.hosts.as_slice() {
-        let (name, address) = (name.as_str(), address.as_str());
-        told.push_str(format!(in alloc; " host [{name}] [{address}]")?.as_str())?;
-    }
-    for limit in settings.limits.as_slice() {
-        let (name, soft, hard) = (limit.name.as_str(), limit.soft, limit.hard);
-        told.push_str(format!(in alloc; " limit [{name}] {soft} {hard}")?.as_str())?;
-    }
-    if let Some(size) = settings.shared_memory {
-        told.push_str(format!(in alloc; " shm {size}")?.as_str())?;
-    }
-    add_text(alloc, told, "hostname", &settings.hostname)?;
-    add_text(alloc, told, "parent", &settings.cgroup_parent)?;
-    add_proxies(alloc, told, &settings.proxies)?;
-    if settings.remove_mount_stubs {
-        told.push_str(" without stubs")?;
-    }
-    Ok(())
-}
-
-/// The proxies that are said.
-fn add_proxies(alloc: Global, told: &mut String, proxies: &Proxies) -> Result<(), Memory> {
-    add_text(alloc, told, "http", &proxies.http)?;
-    add_text(alloc, told, "https", &proxies.https)?;
-    add_text(alloc, told, "ftp", &proxies.ftp)?;
-    add_text(alloc, told, "no", &proxies.without)?;
-    add_text(alloc, told, "all", &proxies.all)
 }
 
 fn network_text(network: NetworkName) -> &'static str {
@@ -216,41 +144,10 @@ fn network_text(network: NetworkName) -> &'static str {
     }
 }
 
-/// What `config` is asked for: what the bundle is taken from, whether images have to be given, and what an engine is given, if it is for one.
-fn config_text(alloc: Global, options: &ConfigOptions) -> Result<String, Memory> {
+/// What `config` is asked for.
+fn config_text(alloc: Global, source: &Source) -> Result<String, Memory> {
     let mut told = String::from_str(alloc, "config")?;
-    add_source(alloc, &mut told, "of", &options.source)?;
-    if options.any_image {
-        told.push_str(" with any image")?;
-    }
-    if let Some(engine) = &options.engine {
-        add_engine(alloc, &mut told, engine)?;
-    }
-    Ok(told)
-}
-
-/// What an engine is given beside a configuration.
-fn add_engine(alloc: Global, told: &mut String, engine: &EngineOptions) -> Result<(), Memory> {
-    told.push_str(" for an engine")?;
-    if let Some(platform) = &engine.platform {
-        let platform = platform_text(alloc, platform)?;
-        told.push_str(format!(in alloc; " on {platform}")?.as_str())?;
-    }
-    for (name, value) in engine.labels.as_slice() {
-        let (name, value) = (name.as_str(), value.as_str());
-        told.push_str(format!(in alloc; " label [{name}] [{value}]")?.as_str())?;
-    }
-    if let Some(epoch) = engine.epoch {
-        told.push_str(format!(in alloc; " at {epoch}")?.as_str())?;
-    }
-    Ok(())
-}
-
-/// What `images` is asked for: its platform, and after it what the bundle is taken from.
-fn images_text(alloc: Global, options: &ImagesOptions) -> Result<String, Memory> {
-    let platform = platform_text(alloc, &options.platform)?;
-    let mut told = format!(in alloc; "images on {platform}")?;
-    add_source(alloc, &mut told, "of", &options.source)?;
+    add_source(alloc, &mut told, "of", source)?;
     Ok(told)
 }
 
@@ -261,11 +158,10 @@ fn explain_text(alloc: Global, source: &Source) -> Result<String, Memory> {
     Ok(told)
 }
 
-/// What `check` is asked for: what the bundle is taken from, which images have to be given, and whether lines of JSON are asked for.
+/// What `check` is asked for: what the bundle is taken from, and whether lines of JSON are.
 fn check_text(alloc: Global, options: &CheckOptions) -> Result<String, Memory> {
     let mut told = String::from_str(alloc, "check")?;
     add_source(alloc, &mut told, "of", &options.source)?;
-    told.push_str(need_text(options.images))?;
     if options.json {
         told.push_str(" as JSON")?;
     }

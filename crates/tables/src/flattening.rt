@@ -57,7 +57,7 @@ fn flattened(alloc: Global, plan: Plan<u8>) -> Result<Plan<u8>, Memory> {
 }
 
 /// A plan's graph and its target, in a line.
-pub fn drawn<C>(alloc: Global, plan: &Plan<C>) -> Result<String, Memory> {
+fn drawn(alloc: Global, plan: &Plan<u8>) -> Result<String, Memory> {
     let mut text = String::new(alloc);
     push_graph(&mut text, plan.graph())?;
     write!(text, "target {}", plan.target().number())?;

@@ -8,14 +8,12 @@
 
 mod buildkit;
 mod by_hand;
-mod calls;
 mod changing;
 mod commands;
 mod configurations;
 mod copies;
 mod definitions;
 mod devices;
-mod engines;
 mod errors;
 mod failing;
 mod files;
@@ -77,7 +75,6 @@ enum Table {
     Trees,
     Copies,
     Configurations,
-    Engines,
     Definitions,
     Llb,
     Programs,
@@ -87,7 +84,6 @@ enum Table {
     Memos,
     Remembering,
     Handing,
-    Calls,
     /// No heading stands before the case, or one of another name.
     Unknown,
 }
@@ -143,7 +139,6 @@ fn table_of(name: &str) -> Table {
         "trees" => Table::Trees,
         "copies" => Table::Copies,
         "configurations" => Table::Configurations,
-        "engines" => Table::Engines,
         "definitions" => Table::Definitions,
         "llb" => Table::Llb,
         "programs" => Table::Programs,
@@ -153,7 +148,6 @@ fn table_of(name: &str) -> Table {
         "memos" => Table::Memos,
         "remembering" => Table::Remembering,
         "handing" => Table::Handing,
-        "calls" => Table::Calls,
         _ => Table::Unknown,
     }
 }
@@ -186,7 +180,6 @@ fn answer<F: Files + AllocGlobal + Clone + Drop>(
         Table::Trees => steps::answer(alloc, case),
         Table::Copies => copies::answer(alloc, keys, rt, files, case),
         Table::Configurations => configurations::answer(alloc, keys, case),
-        Table::Engines => engines::answer(alloc, keys, rt, case),
         Table::Definitions => definitions::answer(alloc, case),
         Table::Llb => buildkit::answer(alloc, keys, case),
         Table::Programs => programs::answer(alloc, keys, rt, files, case),
@@ -196,7 +189,6 @@ fn answer<F: Files + AllocGlobal + Clone + Drop>(
         Table::Memos => memos::answer(alloc, keys, rt, case),
         Table::Remembering => remembering::answer(alloc, rt, case),
         Table::Handing => handing::answer(alloc, keys, rt, case),
-        Table::Calls => calls::answer(alloc, keys, rt, files, case),
         Table::Unknown => Err(Memory),
     }
 }

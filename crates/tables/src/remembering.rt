@@ -1,16 +1,14 @@
 // `remembering`: a name, ` | `, a plan by hand, and after ` | ` each a step with one memo: `solve`, the plan is solved with it by two workers; `forget`, the memo is
-// told to forget; `find` and an operation, which is sought on the empty tree; or `add` and an operation, whose tree on the empty tree is looked for and added
-// once more. The answer is the name, and after each step what the plan came to, or whether the operation was found, and how many entries the memo
-// has since it forgot last, and how many from before that.
+// told to forget; or `find` and an operation, which is sought on the empty tree. The answer is the name, and after each step how many entries
+// the memo has since it forgot last, and how many from before that, or whether it found one.
 
 use crate::by_hand::plan_read;
 use crate::reading::cut;
-use crate::solving::answer_line;
 use crate::telling::begin;
 use cachemounts::CacheStore;
-use executor::{Executor, Fixture};
+use executor::Fixture;
 use memo::Memo;
-use plain::{Exact, Memory};
+use plain::Memory;
 use plans::Plan;
 use samples::op_of;
 use solver::OpenGate;
@@ -72,17 +70,12 @@ fn take_step(
             };
             Ok(told.push_str(found)?)
         }
-        ("add", op) => {
-            add(alloc, memo, op)?;
-            tell_counts(told, memo)
-        }
         ("forget", _) => {
             memo.forget(alloc);
             tell_counts(told, memo)
         }
         _ => {
-            let line = solve_with(alloc, rt, plan, memo)?;
-            write!(told, "{line}, ")?;
+            solve_with(alloc, rt, plan, memo)?;
             tell_counts(told, memo)
         }
     }
@@ -104,33 +97,21 @@ fn has(alloc: Global, memo: &Memo<Fixture>, op: &str) -> Result<bool, Memory> {
     Ok(found)
 }
 
-/// Adds what a memo has for an operation on the empty tree once more.
-fn add<E: Executor>(alloc: Global, memo: &mut Memo<E>, op: &str) -> Result<(), Memory> {
-    let op = op_of(alloc, op)?;
-    let empty = Tree::empty(alloc);
-    let tree = match memo.find_known(&op, &[&empty], &[]) {
-        Some(hit) => hit.tree.copy(alloc)?,
-        None => return Err(Memory),
-    };
-    let added = memo.add(alloc, &op, &[&empty], &tree);
-    drop(op);
-    drop(empty);
-    drop(tree);
-    added
-}
-
-/// What a plan comes to with a memo.
+/// Solves a plan with a memo.
 fn solve_with(
     alloc: Global,
     rt: &(impl Threads + Wait + Sync),
     plan: &Plan<u8>,
     memo: &mut Memo<Fixture>,
-) -> Result<String, Memory> {
+) -> Result<(), Memory> {
     let mut caches = CacheStore::new(alloc);
     let answer = solve(alloc, rt, plan, &Fixture, 2, &OpenGate, &mut caches, memo);
     drop(caches);
     match answer {
-        Ok(answer) => answer_line(alloc, answer),
+        Ok(answer) => {
+            drop(answer);
+            Ok(())
+        }
         Err(memory) => Err(memory),
     }
 }

@@ -132,7 +132,7 @@ fn solved_by<G: Gate>(
     ensures idle { caches.new.holds ≡ [] }
 {
     match who {
-        "here" => answer_line(alloc, solve_here(alloc, plan, &Fixture, caches)?),
+        "here" => answer_text(alloc, solve_here(alloc, plan, &Fixture, caches)?),
         "sweep" => swept(alloc, plan, gate),
         _ => {
             let mut memo = Memo::new(alloc, &Fixture);
@@ -153,7 +153,7 @@ fn solved_by<G: Gate>(
 }
 
 /// An answer in a line.
-pub fn answer_line(alloc: Global, answer: Answer<u8>) -> Result<String, Memory> {
+fn answer_text(alloc: Global, answer: Answer<u8>) -> Result<String, Memory> {
     match answer {
         Answer::Built(tree, config) => {
             let list = listing(alloc, &tree);

@@ -73,7 +73,7 @@ pub fn answer(
     let (workers, from) = numbers.split_once(" from ").unwrap_or((numbers, ""));
     let workers = workers_of(workers);
     let from = from.parse::<u64>().unwrap_or(u64::MAX);
-    let text = match ask(alloc, keys, rt, bundle.as_bytes(), false) {
+    let text = match ask(alloc, keys, rt, bundle.as_bytes()) {
         Ok(asked) => asked_text(alloc, rt, asked, workers, from)?,
         Err(_) => return Err(Memory),
     };

@@ -112,32 +112,6 @@ row 'no fault in a build that fails' 0 '' '' check
 bundle 'COPY a'
 fault=$'Dockerfile:2: R06: COPY takes one source or more and a destination, none of them empty\n    2 | COPY a\n      | write COPY source destination, and give each variable in it a value'
 row 'a fault' 1 "$fault" '' check
-bundle 'ARG TARGETARCH'
-warning=$'Dockerfile:2:5: W04: this ARG has no value here, and BuildKit gives it that of the platform\n    2 | ARG TARGETARCH\n      |     ^^^^^^^^^^\n      | give it a default, or a value by a build argument of its name'
-row 'a warning' 0 "$warning" '' check
-row 'a warning for a program' 0 '*' '' check --json
-
-# images that aren't given
-printf '%s' '{"dockerfile":{"text":"FROM i\nUSER u\n"}}' >"$work/in"
-noted='no image was given for i; an empty one stands for each'
-row 'no fault without an image' 0 '' "$noted" check --any-image
-row 'a fault without an image' 1 '*' '' check --need-images
-row 'a graph without an image' 0 '*' "$noted" graph --any-image
-row 'a graph without an image, for Graphviz' 0 '*' "$noted" graph --dot --any-image
-row 'a graph that needs its images' 2 '{"code":"R12","line":1,"result":"refused"}' '' graph
-row 'both flags of images' 2 '' '*' check --any-image --need-images
-row 'a configuration without an image' 0 '{"architecture":"amd64","config":{"User":"u"},"os":"linux","rootfs":{"diff_ids":[],"type":"layers"}}' '*' config --any-image
-row 'a configuration that needs its images' 2 '{"code":"R12","line":1,"result":"refused"}' '' config
-row 'a configuration for an engine' 0 '*' '*' config --any-image --for-engine --epoch 0
-row 'an option of an engine without one' 2 '' '*' config --any-image --epoch 0
-row 'the images of a file' 0 '{"lines":[1],"name":"i","needed":true,"platform":"linux/amd64"}' '' images
-row 'images of a file that does not exist' 3 '' "device failed: $work/missing does not exist" images "$work/missing"
-row 'images of two files' 2 '' '*' images "$work/bundle.json" "$work/bundle.json"
-row 'help of images' 2 '*' '' images --help
-bundle 'COPY a'
-row 'images of a refused file' 2 '{"code":"R06","line":2,"result":"refused"}' '' images
-row 'a limit that is none' 2 '' '*' llb --unique u --ulimit nofile=2:1
-row 'a host without an address' 2 '' '*' llb --unique u --add-host db
 
 # a failure, for a person to read
 bundle 'RUN put /a hi'

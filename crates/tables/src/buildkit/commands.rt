@@ -39,19 +39,11 @@ fn meta(alloc: Global, args: &[&str], env: &[&str], cwd: &str, user: &str) -> Re
     let user = text(alloc, user)?;
     let args = texts(alloc, args)?;
     let env = texts(alloc, env)?;
-    let hostname = text(alloc, "")?;
-    let cgroup_parent = text(alloc, "")?;
     Ok(Meta {
         args,
         env,
         cwd,
         user,
-        proxy: None,
-        hosts: Items::new(alloc),
-        hostname,
-        limits: Items::new(alloc),
-        cgroup_parent,
-        clears_stubs: false,
     })
 }
 

@@ -107,7 +107,7 @@ fn left_out(alloc: Global) -> Result<Items<Path>, Memory> {
 pub(crate) fn context(alloc: Global) -> Result<Op, Memory> {
     let left = left_out(alloc)?;
     let excludes = exclude_list(alloc, left.as_slice())?;
-    context_op(alloc, "context", "u1", &excludes, &None)
+    context_op(alloc, "u1", &excludes, &None)
 }
 
 /// Trees that are laid over each other by copies.

@@ -1,7 +1,7 @@
 // The definitions of plans.
 
 use crate::buildkit::{platform, text};
-use exported::{CommandOptions, Empty, Merging, NoCache, Options, context_op, export, follow_list};
+use exported::{Merging, Options, context_op, export, follow_list};
 use llbmessages::{Network, Op, Platform};
 use named::NamedRows;
 use plain::{Bytes, Fault, Items, Memory, Text};
@@ -53,7 +53,7 @@ pub(crate) fn followed_context(alloc: Global) -> Result<Op, Memory> {
     let plan = plan_of_rows(alloc, &rows, 3, &[])?;
     let follows = follow_list(alloc, &plan);
     drop(plan);
-    context_op(alloc, "context", "u1", &None, &follows?)
+    context_op(alloc, "u1", &None, &follows?)
 }
 
 /// The definition of the plan of these rows, whose lines have these names.
@@ -64,27 +64,15 @@ fn exported(
     target: u32,
     names: &[&str],
 ) -> Result<Bytes, Memory> {
-    let options = options(alloc, keys)?;
-    exported_as(alloc, &options, rows, target, names)
-}
-
-/// The same, as these options choose it.
-pub(crate) fn exported_as(
-    alloc: Global,
-    options: &Options,
-    rows: &[Row],
-    target: u32,
-    names: &[&str],
-) -> Result<Bytes, Memory> {
     let names = names_of(alloc, names)?;
     let plan = plan_of_rows(alloc, rows, target, &[])?;
-    let bytes = bytes_of(alloc, options, &plan, names.as_slice());
+    let bytes = bytes_of(alloc, keys, &plan, names.as_slice());
     drop(plan);
     bytes
 }
 
 /// Names of lines; the empty one is none.
-pub(crate) fn names_of(alloc: Global, texts: &[&str]) -> Result<Items<Option<Text>>, Memory> {
+fn names_of(alloc: Global, texts: &[&str]) -> Result<Items<Option<Text>>, Memory> {
     let mut names = Items::new(alloc);
     for name in texts {
         let name = match name.is_empty() {
@@ -99,58 +87,34 @@ pub(crate) fn names_of(alloc: Global, texts: &[&str]) -> Result<Items<Option<Tex
 /// The definition of a plan; where there is none, nothing is shown.
 fn bytes_of(
     alloc: Global,
-    options: &Options,
+    keys: RandomState,
     plan: &Plan<u8>,
     names: &[Option<Text>],
 ) -> Result<Bytes, Memory> {
-    match export(alloc, plan, options, names) {
+    let options = options(alloc, keys)?;
+    match export(alloc, plan, &options, names) {
         Ok(bytes) => Ok(bytes),
         Err(Fault::Because(_)) | Err(Fault::Memory) => Err(Memory),
     }
 }
 
-/// What is chosen where nothing is asked for but a platform, no network and patterns.
-pub(crate) fn options(alloc: Global, keys: RandomState) -> Result<Options, Memory> {
+fn options(alloc: Global, keys: RandomState) -> Result<Options, Memory> {
     let unique = text(alloc, "u1")?;
-    let context = text(alloc, "context")?;
-    let commands = no_commands(alloc)?;
     match with_patterns(alloc) {
         Ok((platform, excludes)) => Ok(Options {
             platform,
-            commands,
-            context,
+            network: Network::None,
             unique,
             merging: Merging::Native,
-            empty: Empty::Root,
             digests: NamedRows::new(alloc, keys),
             excludes: Some(excludes),
             follows: None,
-            no_cache: NoCache::Nothing,
-            source: None,
         }),
         Err(memory) => {
             drop(unique);
-            drop(context);
-            drop(commands);
             Err(memory)
         }
     }
-}
-
-/// What commands are given where nothing is asked for: no network.
-fn no_commands(alloc: Global) -> Result<CommandOptions, Memory> {
-    let hostname = text(alloc, "")?;
-    let cgroup_parent = text(alloc, "")?;
-    Ok(CommandOptions {
-        network: Network::None,
-        proxy: None,
-        hosts: Items::new(alloc),
-        hostname,
-        limits: Items::new(alloc),
-        cgroup_parent,
-        clears_stubs: false,
-        shm_size: 0,
-    })
 }
 
 /// A platform, and patterns of files that aren't given.

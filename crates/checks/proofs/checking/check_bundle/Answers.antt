@@ -2,7 +2,7 @@ use Rattle.std.proofs.Common.{Err, subst}
 use Rattle.imageconfig.specs.Reading.{config_in}
 use Rattle.bundle.specs.Reading.{ReadsBundle}
 use Rattle.flaws.specs.Flaws.{flaw_in}
-use Rattle.checks.proofs.CheckFacts.{bundle_refused, bundle_checked, bundle_lacked, bundle_warned, refused_lacked, refused_warned}
+use Rattle.checks.proofs.CheckFacts.{bundle_refused, bundle_checked}
 use Rattle.checks.proofs.TextFacts.{bundle_text, found_text, bundle_target, found_target, found_flaw}
 use Rattle.checks.proofs.checking.check_bundle.Goals as goal
 
@@ -10,7 +10,7 @@ pub refused-requires-after_bounds : goal.refused-requires-after_bounds
 refused-requires-after_bounds g c κs within = subst (λ f. ReadsBundle config_in c.args.bytes.now (Err f)) c.in-Err-Because.field-0-is c.in-Err-Because.ensures
 
 pub returns-in-Ok-clause-faults : goal.returns-in-Ok-clause-faults
-returns-in-Ok-clause-faults g c = bundle_checked c.args.any_image c.args.bytes.now c.in-Ok.bundle c.check_whole.result c.in-Ok.ensures c.check_whole.ensures.faults
+returns-in-Ok-clause-faults g c = bundle_checked c.args.bytes.now c.in-Ok.bundle c.check_whole.result c.in-Ok.ensures c.check_whole.ensures.faults
 
 pub returns-in-Ok-clause-text : goal.returns-in-Ok-clause-text
 returns-in-Ok-clause-text g c =
@@ -28,21 +28,5 @@ returns-in-Ok-clause-flaw g c =
 
 pub returns-in-Err-Because-clause-faults : goal.returns-in-Err-Because-clause-faults
 returns-in-Err-Because-clause-faults g c =
-    bundle_refused c.args.any_image c.args.bytes.now c.in-Err-Because.refusal c.refused.result
+    bundle_refused c.args.bytes.now c.in-Err-Because.refusal c.refused.result
     (subst (λ f. ReadsBundle config_in c.args.bytes.now (Err f)) c.in-Err-Because.field-0-is c.in-Err-Because.ensures) c.refused.ensures.faults
-
-pub returns-in-Ok-clause-missing : goal.returns-in-Ok-clause-missing
-returns-in-Ok-clause-missing g c = bundle_lacked c.args.bytes.now c.in-Ok.bundle c.check_whole.result c.in-Ok.ensures c.check_whole.ensures.missing
-
-pub returns-in-Err-Because-clause-missing : goal.returns-in-Err-Because-clause-missing
-returns-in-Err-Because-clause-missing g c =
-    refused_lacked c.args.bytes.now c.in-Err-Because.refusal c.refused.result
-    (subst (λ f. ReadsBundle config_in c.args.bytes.now (Err f)) c.in-Err-Because.field-0-is c.in-Err-Because.ensures) c.refused.ensures.missing
-
-pub returns-in-Ok-clause-warnings : goal.returns-in-Ok-clause-warnings
-returns-in-Ok-clause-warnings g c = bundle_warned c.args.bytes.now c.in-Ok.bundle c.check_whole.result c.in-Ok.ensures c.check_whole.ensures.warnings
-
-pub returns-in-Err-Because-clause-warnings : goal.returns-in-Err-Because-clause-warnings
-returns-in-Err-Because-clause-warnings g c =
-    refused_warned c.args.bytes.now c.in-Err-Because.refusal c.refused.result
-    (subst (λ f. ReadsBundle config_in c.args.bytes.now (Err f)) c.in-Err-Because.field-0-is c.in-Err-Because.ensures) c.refused.ensures.warnings

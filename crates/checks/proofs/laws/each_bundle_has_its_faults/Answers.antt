@@ -1,5 +1,5 @@
 use Rattle.imageconfig.specs.Reading.{config_in}
-use Rattle.checks.proofs.ListFacts.{TextLaws, OneText, NameLaws, StageLaws, StubLaws, one_list, some_list}
+use Rattle.checks.proofs.ListFacts.{TextLaws, OneText, NameLaws, StageLaws, one_list, some_list}
 use Rattle.checks.proofs.laws.each_bundle_has_its_faults.Goals as goal
 
 pub returns : goal.returns
@@ -14,8 +14,7 @@ returns c =
       evaluates = c.every_table_is_evaluated_or_refused.ensures;
     } in
     let unique : OneText = record { faults = c.each_text_has_its_faults.ensures.unique; instructions = c.answers_are_unique.ensures.instructions } in
-    let stubs : StubLaws = record { exists = c.each_bundle_has_its_stubs.ensures.exists; unique = c.each_bundle_has_its_stubs.ensures.unique } in
     record {
-      exists = some_list (c.bytes_are_read_or_refused.ensures config_in) c.each_text_has_its_faults.ensures.exists texts names stages stubs;
-      unique = one_list texts unique names stubs;
+      exists = some_list (c.bytes_are_read_or_refused.ensures config_in) c.each_text_has_its_faults.ensures.exists texts names stages;
+      unique = one_list texts unique names;
     }

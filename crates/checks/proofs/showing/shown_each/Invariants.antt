@@ -6,5 +6,5 @@ use Rattle.checks.proofs.showing.shown_each.Given as goal
 
 abbrev pub invariant-loop-fault : goal.invariant-loop-fault
 invariant-loop-fault l =
-    string_bytes l.text ++ shown_faults l.file l.form (option_copied l.target) l.images l.missing (map (λ line. line.now) l.lines) (drop l.fault-index l.faults)
-    ≡ shown_faults l.file l.form (option_copied l.target) l.images l.missing (map (λ line. line.now) l.lines) l.faults
+    string_bytes l.text ++ shown_faults l.file l.form (option_copied l.target) l.images (map (λ line. line.now) l.lines) (drop l.fault-index l.faults)
+    ≡ shown_faults l.file l.form (option_copied l.target) l.images (map (λ line. line.now) l.lines) l.faults

@@ -9,5 +9,5 @@ pub returns : goal.returns
 returns c =
     let same : map (λ (line : Bor (List ℕ)). line.now) c.as_slice.result.now ≡ text_lines c.args.text.now =
     ap (map (λ (line : Bor (List ℕ)). line.now)) c.as_slice.ensures.value ∙ c.in_ok-lines.ensures in
-    subst (λ (lines : List (List ℕ)). IfOk c.shown_each.result (λ shown. string_bytes shown ≡ shown_faults c.args.file.now c.args.form (option_copied c.args.target) c.args.images.now c.args.missing.now lines c.args.faults.now)) same
+    subst (λ (lines : List (List ℕ)). IfOk c.shown_each.result (λ shown. string_bytes shown ≡ shown_faults c.args.file.now c.args.form (option_copied c.args.target) c.args.images.now lines c.args.faults.now)) same
     c.shown_each.ensures

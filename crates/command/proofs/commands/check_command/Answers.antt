@@ -1,10 +1,10 @@
 use Rattle.std.proofs.Common.{codes}
 use Rattle.clap.specs.Words.{new_app, with_rule}
-use Rattle.command.specs.CommandLine.{flag, with_need}
+use Rattle.command.specs.CommandLine.{flag}
 use Rattle.command.proofs.commands.check_command.Goals as goal
 
 pub returns-clause-app : goal.returns-clause-app
-returns-clause-app c = c.with_source.ensures.app (with_need (with_rule (new_app (codes "check")) (flag (codes "json")))) (c.with_need-command.ensures.app (with_rule (new_app (codes "check")) (flag (codes "json"))) (c.with_argument-command.ensures.app (new_app (codes "check")) (flag (codes "json")) c.described-command.ensures.app c.flag-json.ensures.rule))
+returns-clause-app c = c.with_source.ensures.app (with_rule (new_app (codes "check")) (flag (codes "json"))) (c.with_argument-command.ensures.app (new_app (codes "check")) (flag (codes "json")) c.described-command.ensures.app c.flag-json.ensures.rule)
 
 pub returns-clause-local : goal.returns-clause-local
-returns-clause-local c = c.with_source.ensures.local (c.with_need-command.ensures.local (c.with_argument-command.ensures.local c.described-command.ensures.local))
+returns-clause-local c = c.with_source.ensures.local (c.with_argument-command.ensures.local c.described-command.ensures.local)

@@ -1,10 +1,9 @@
 use Rattle.std.proofs.Common.{codes}
-use Rattle.clap.specs.Words.{new_app, with_rule}
-use Rattle.command.specs.CommandLine.{flag, with_engine}
+use Rattle.clap.specs.Words.{new_app}
 use Rattle.command.proofs.commands.config_command.Goals as goal
 
 pub returns-clause-app : goal.returns-clause-app
-returns-clause-app c = c.with_source.ensures.app (with_engine (with_rule (new_app (codes "config")) (flag (codes "any-image")))) (c.with_engine-command.ensures.app (with_rule (new_app (codes "config")) (flag (codes "any-image"))) (c.with_argument-command.ensures.app (new_app (codes "config")) (flag (codes "any-image")) c.described-command.ensures.app c.flag-any.ensures.rule))
+returns-clause-app c = c.with_source.ensures.app (new_app (codes "config")) c.described-command.ensures.app
 
 pub returns-clause-local : goal.returns-clause-local
-returns-clause-local c = c.with_source.ensures.local (c.with_engine-command.ensures.local (c.with_argument-command.ensures.local c.described-command.ensures.local))
+returns-clause-local c = c.with_source.ensures.local c.described-command.ensures.local

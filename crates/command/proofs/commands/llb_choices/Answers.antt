@@ -4,7 +4,7 @@ use Rattle.command.specs.CommandLine.{flag, llb_options, text_option}
 use Rattle.command.proofs.commands.llb_choices.Goals as goal
 
 pub returns-clause-app : goal.returns-clause-app
-returns-clause-app c = c.with_argument.ensures.app (with_rule (with_rule (with_rule (llb_options) (text_option (codes "merge"))) (flag (codes "follow"))) (text_option (codes "context"))) (text_option (codes "source-map")) (c.with_argument-command-3.ensures.app (with_rule (with_rule (llb_options) (text_option (codes "merge"))) (flag (codes "follow"))) (text_option (codes "context")) (c.with_argument-command-2.ensures.app (with_rule (llb_options) (text_option (codes "merge"))) (flag (codes "follow")) (c.with_argument-command.ensures.app (llb_options) (text_option (codes "merge")) (c.llb_options.ensures.app) (c.text_option-merge.ensures.rule)) (c.flag-follow.ensures.rule)) (c.text_option-context.ensures.rule)) (c.text_option-map.ensures.rule)
+returns-clause-app c = c.with_argument.ensures.app (with_rule llb_options (text_option (codes "merge"))) (flag (codes "follow")) (c.with_argument-command.ensures.app llb_options (text_option (codes "merge")) c.llb_options.ensures.app c.text_option-merge.ensures.rule) c.flag-follow.ensures.rule
 
 pub returns-clause-local : goal.returns-clause-local
-returns-clause-local c = c.with_argument.ensures.local (c.with_argument-command-3.ensures.local (c.with_argument-command-2.ensures.local (c.with_argument-command.ensures.local (c.llb_options.ensures.local))))
+returns-clause-local c = c.with_argument.ensures.local (c.with_argument-command.ensures.local c.llb_options.ensures.local)

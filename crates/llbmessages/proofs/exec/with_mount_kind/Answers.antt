@@ -1,7 +1,7 @@
 use Rattle.std.proofs.Common.{◌≡◌, ◌++◌, ◌∷◌, [], List, subst, ap, ◌∙◌, IfOk, append_assoc, sym}
 use Rattle.wire.specs.Fields.{Field, number}
 use Rattle.wire.specs.Kinds.{message_field}
-use Rattle.llbmessages.specs.Exec.{cache_fields, tmpfs_fields, mount_kind_fields}
+use Rattle.llbmessages.specs.Exec.{cache_fields, mount_kind_fields}
 use Rattle.llbmessages.proofs.exec.with_mount_kind.Goals as goal
 
 pub returns-in_ok-with_set_number-in-Cache : goal.returns-in_ok-with_set_number-in-Cache
@@ -11,11 +11,3 @@ returns-in_ok-with_set_number-in-Cache c =
     let same = ap (λ fields. fields ++ cache) c.in_ok-with_set_number-in-Cache.ensures ∙ (append_assoc c.args.message (number 6 3 ∷ []) cache
     ∙ ap (λ kind. c.args.message ++ mount_kind_fields kind) (sym c.in-Cache.is)) in
     subst (λ (fields : List Field). IfOk c.with_encoded.result (λ message. message ≡ fields)) same c.with_encoded.ensures
-
-pub returns-in_ok-with_set_number-in-Tmpfs : goal.returns-in_ok-with_set_number-in-Tmpfs
-unfolding mount_kind_fields
-returns-in_ok-with_set_number-in-Tmpfs c =
-    let tmpfs = message_field 19 (tmpfs_fields c.in-Tmpfs.tmpfs) in
-    let same = ap (λ fields. fields ++ tmpfs) c.in_ok-with_set_number-in-Tmpfs.ensures ∙ (append_assoc c.args.message (number 6 4 ∷ []) tmpfs
-    ∙ ap (λ kind. c.args.message ++ mount_kind_fields kind) (sym c.in-Tmpfs.is)) in
-    subst (λ (fields : List Field). IfOk c.with_encoded-in-Tmpfs.result (λ message. message ≡ fields)) same c.with_encoded-in-Tmpfs.ensures

@@ -1,8 +1,8 @@
 use Rattle.std.proofs.Common.{◌+◌, refl, sym, ap, subst}
 use Rattle.program.specs.Faults.{of_edge}
-use Rattle.build.specs.Ends.{Devices, devices}
+use Rattle.build.specs.Ends.{Answering, Devices, devices}
 use Rattle.explains.specs.Explained.{Explains}
-use Rattle.program.specs.Telling.{Stops, Telling, TellingEnds, never, quietly}
+use Rattle.program.specs.Telling.{Stops, TellingEnds, never}
 use Rattle.program.specs.PrivateMoved.{explain_moves, never_moves}
 use Rattle.program.proofs.TellFacts.{read_of, loses_at_most, has_told, has_begun, faulted, err_and}
 use Rattle.program.proofs.explaining.explain_within.Goals as goal
@@ -12,14 +12,14 @@ returns-in_err-write_all-in-Ok g c =
     let failed = c.in_err-write_all-in-Ok.ensures in
     let fault = c.in_err-write_all-in-Ok.field-0.0 in
     let out = g.E.Executor.out c.args.executor.now in
-    let tells : Telling = quietly (Explains c.args.file.now out) in
+    let tells : Answering = Explains c.args.file.now out in
     let stops : Stops = never in
     let bytes = c.as_slice.result.now in
     let line = c.as_slice-in-Ok.result.now in
     let old : Devices = devices (g.R.CountedRead.remaining c.args.input.now) (g.R.CountedRead.failures c.args.input.now) (g.W.CountedWrite.contents c.args.output.now) (g.W.CountedWrite.failures c.args.output.now) in
     let new : Devices = devices (g.R.CountedRead.remaining c.read_all.new.input) (g.R.CountedRead.failures c.read_all.new.input) (g.W.CountedWrite.contents c.write_all.new.output) (g.W.CountedWrite.failures c.write_all.new.output) in
     let read = read_of _ old.left new.left bytes _ (ap (λ n. n + 1) c.requires.limit) c.as_slice.ensures.value c.in_ok-bytes.ensures.bytes in
-    let ends = has_begun tells stops (explain_moves c.args.file.now out) old new bytes line c.in-Ok.told.text c.in-Ok.told.note c.in-Ok.told.status fault read c.in-Ok.ensures c.as_slice-in-Ok.ensures failed.beginning c.in_ok-bytes.ensures.count failed.count failed.device in
+    let ends = has_begun tells stops (explain_moves c.args.file.now out) old new bytes line c.in-Ok.told.text c.in-Ok.told.status fault read c.in-Ok.ensures c.as_slice-in-Ok.ensures failed.beginning c.in_ok-bytes.ensures.count failed.count failed.device in
     let is = err_and c.from_residual-in_err-write_all-in-Ok.result (of_edge fault) c.from_residual-in_err-write_all-in-Ok.ensures.1 in
     record {
       ends = subst (TellingEnds tells stops old new) (sym is) ends;
@@ -29,7 +29,7 @@ returns-in_err-write_all-in-Ok g c =
 pub returns-in-Ok : goal.returns-in-Ok
 returns-in-Ok g c =
     let out = g.E.Executor.out c.args.executor.now in
-    let tells : Telling = quietly (Explains c.args.file.now out) in
+    let tells : Answering = Explains c.args.file.now out in
     let stops : Stops = never in
     let bytes = c.as_slice.result.now in
     let line = c.as_slice-in-Ok.result.now in
@@ -37,14 +37,14 @@ returns-in-Ok g c =
     let new : Devices = devices (g.R.CountedRead.remaining c.read_all.new.input) (g.R.CountedRead.failures c.read_all.new.input) (g.W.CountedWrite.contents c.write_all.new.output) (g.W.CountedWrite.failures c.write_all.new.output) in
     let read = read_of _ old.left new.left bytes _ (ap (λ n. n + 1) c.requires.limit) c.as_slice.ensures.value c.in_ok-bytes.ensures.bytes in
     record {
-      ends = has_told tells (explain_moves c.args.file.now out) old new bytes line c.in-Ok.told.text (record { status = c.in-Ok.told.status; note = c.in-Ok.told.note }) read c.in-Ok.ensures c.as_slice-in-Ok.ensures c.in_ok-write_all-in-Ok.ensures.whole c.in_ok-bytes.ensures.count c.in_ok-write_all-in-Ok.ensures.count;
+      ends = has_told tells (explain_moves c.args.file.now out) old new bytes line c.in-Ok.told.text c.in-Ok.told.status read c.in-Ok.ensures c.as_slice-in-Ok.ensures c.in_ok-write_all-in-Ok.ensures.whole c.in_ok-bytes.ensures.count c.in_ok-write_all-in-Ok.ensures.count;
       taken = loses_at_most _ old.left new.left _ c.in_ok-bytes.ensures.bytes;
     }
 
 pub returns : goal.returns
 returns g c =
     let out = g.E.Executor.out c.args.executor.now in
-    let tells : Telling = quietly (Explains c.args.file.now out) in
+    let tells : Answering = Explains c.args.file.now out in
     let stops : Stops = never in
     let bytes = c.as_slice.result.now in
     let old : Devices = devices (g.R.CountedRead.remaining c.args.input.now) (g.R.CountedRead.failures c.args.input.now) (g.W.CountedWrite.contents c.args.output.now) (g.W.CountedWrite.failures c.args.output.now) in

@@ -8,4 +8,4 @@ pub returns-in-Err-Because : goal.returns-in-Err-Because
 returns-in-Err-Because g c =
     refusal_told c.args.paths.now c.args.bundle.now c.in-Err-Because.field-0 c.in-Err-Because.refusal c.tell_refusal.result c.in-Err-Because.field-0-is c.in-Err-Because.ensures
     c.tell_refusal.ensures.status
-    (subst (λ r. IfOk c.tell_refusal.result (λ told. told.text ≡ line_of (refused_text r))) c.of.ensures c.tell_refusal.ensures.text) c.tell_refusal.ensures.note
+    (subst (λ r. IfOk c.tell_refusal.result (λ told. told.text ≡ line_of (refused_text r))) c.of.ensures c.tell_refusal.ensures.text)

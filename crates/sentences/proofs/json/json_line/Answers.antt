@@ -11,5 +11,5 @@ pub returns : goal.returns
 returns c =
     let plain : has_float (view c.in_ok-value.value) ≡ false =
     ap has_float c.in_ok-value.ensures
-    ∙ refusal_is_plain c.args.level (pointer_of c.args.pointed) c.args.code.now c.args.file.now c.args.number c.args.message.now c.args.text.now in
+    ∙ refusal_is_plain (pointer_of c.args.pointed) c.args.code.now c.args.file.now c.args.number c.args.message.now c.args.text.now in
     IfOk-weaker c.written_line.result _ _ (λ text written. written plain ∙ ap written_line c.in_ok-value.ensures) c.written_line.ensures

@@ -1,7 +1,0 @@
-use Rattle.std.proofs.Common.{◌≡◌, map, take}
-use Rattle.command.specs.Values.{halves_of}
-use Rattle.command.proofs.values.cut_texts.Given as goal
-
--- the texts so far are cut
-abbrev pub invariant-loop-text : goal.invariant-loop-text
-invariant-loop-text l = l.pairs.items ≡ map (λ text. halves_of text.now) (take l.text-index l.texts)

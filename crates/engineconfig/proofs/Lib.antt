@@ -1,6 +1,0 @@
-mod Characters
-mod EntryFacts
-mod FloatFacts
-mod LawFacts
-mod PortFacts
-mod WalkFacts

@@ -1,9 +1,0 @@
-use Rattle.std.proofs.Common.{subst}
-use Rattle.program.specs.Runs.{SaysText}
-use Rattle.program.specs.Saying.{stream}
-use Rattle.program.proofs.ending.finish.Goals as goal
-
-pub returns-clause-says : goal.returns-clause-says
-returns-clause-says g c =
-    subst (λ text. SaysText text (stream (g.S.CountedWrite.contents c.args.errors.now) (g.S.CountedWrite.failures c.args.errors.now)) (stream (g.S.CountedWrite.contents c.say_text.new.errors) (g.S.CountedWrite.failures c.say_text.new.errors)))
-    c.end_line.ensures c.say_text.ensures
